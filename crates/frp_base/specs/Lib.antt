@@ -1,0 +1,4 @@
+pub mod formers
+pub mod Time
+pub mod Name
+pub mod Val

@@ -1,0 +1,22 @@
+//! Times, names, types and values, and the small containers that they are made of.
+#![tactic(auto)]
+
+mod boxed;
+mod memory;
+mod name;
+mod place;
+mod seq;
+mod text;
+mod time;
+mod ty;
+mod val;
+
+pub use boxed::Boxed;
+pub use memory::Memory;
+pub use name::{Name, Stage};
+pub use place::Place;
+pub use seq::Seq;
+pub use text::Text;
+pub use time::Time;
+pub use ty::Ty;
+pub use val::Val;

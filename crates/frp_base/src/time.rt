@@ -1,0 +1,125 @@
+ghost use Rattle.std.specs.Prelude.{◌≡◌, [], ◌∷◌, ◌++◌, IfOk, OnOk};
+ghost use Rattle.frp_base.specs.Time.{time_eq, time_text};
+
+use crate::memory::Memory;
+use crate::text::Text;
+use smallvec::SmallVec;
+use std::alloc::Global;
+use std::cmp::Ordering;
+use std::marker::Model;
+
+/// A time: a list of one number or more, four of them kept inline. Times are ordered as lists are, number by
+/// number, and a time comes before those that it begins: `[3] < [3,0] < [3,0,1] < [3,1] < [4]`.
+/// After the published semantics of Sodium, where a split gives its items at the children of a time.
+#[derive(Drop)]
+pub struct Time {
+    numbers: SmallVec<u64, 4>,
+}
+
+impl Model for Time {
+    ghost use Rattle.std.specs.Prelude.{List, ℕ, length, ◌<◌};
+
+    ghost Value = { List ℕ };
+
+    ghost view = { λ t. t.numbers.items };
+
+    ghost invariant = { λ t. 0 < length t.numbers.items };
+}
+
+impl Time {
+    /// The time of a transaction, of the one number `k`; 0 is the build. It takes no memory.
+    pub fn top(alloc: Global, k: u64) -> Time
+        ensures { result ≡ k ∷ [] }
+    {
+        let mut numbers = SmallVec::new(alloc);
+        numbers.push_reserved(k);
+        Time { numbers }
+    }
+
+    /// A time of the same numbers.
+    pub fn copy(&self) -> Result<Time, Memory>
+        ensures { IfOk result (λ t. t ≡ self.now) }
+    {
+        let numbers = SmallVec::from_slice(*self.numbers.allocator(), self.numbers.as_slice())?;
+        Ok(Time { numbers })
+    }
+
+    /// Whether two times are one. It takes no memory.
+    pub fn is(&self, other: &Time) -> bool
+        ensures { result ≡ time_eq self.now other.now }
+    {
+        *self == *other
+    }
+
+    /// Appends the text of the time, as `[3,0,1]`.
+    pub fn show(&self, out: &mut Text) -> Result<(), Memory>
+        ensures { OnOk result (out.new ≡ out.old ++ time_text self.now) }
+    {
+        let alloc = *self.numbers.allocator();
+        let numbers = self.numbers.as_slice();
+        out.push_str("[")?;
+        out.push_str(numbers[0].to_string(alloc)?.as_str())?;
+        for n in &numbers[1..] {
+            out.push_str(",")?;
+            out.push_str(n.to_string(alloc)?.as_str())?;
+        }
+        out.push_str("]")
+    }
+}
+
+impl PartialEq for Time {
+    ghost use Rattle.std.specs.Prelude.{nat_eq};
+    ghost use lib.Pointwise.{pointwise};
+    ghost use Rattle.std.proofs.lemmas.Cmp.{nat_list_eq_equiv};
+    ghost use Rattle.std.specs.Cmp as Cmp;
+
+    ghost eq = { λ v w. pointwise nat_eq v w };
+
+    ghost laws = { Cmp.partial_equiv_from_equiv nat_list_eq_equiv };
+
+    fn eq(&self, other: &Time) -> bool {
+        self.numbers.as_slice() == other.numbers.as_slice()
+    }
+}
+
+impl Eq for Time {
+    ghost use Rattle.std.proofs.lemmas.Cmp.{nat_list_eq_equiv};
+
+    ghost laws = { nat_list_eq_equiv };
+}
+
+impl Ord for Time {
+    ghost use Rattle.std.specs.Ordering.{nat_cmp};
+    ghost use Rattle.std.specs.Cmp.Lexicographic.{slice_cmp};
+    ghost use Rattle.std.proofs.lemmas.Cmp.{nat_list_cmp_total};
+    ghost use Rattle.std.proofs.Common.{rules};
+    ghost use Rattle.std.specs.Cmp.Rules.{comparing};
+
+    ghost cmp = { slice_cmp nat_cmp };
+
+    ghost total = { nat_list_cmp_total };
+
+    ghost matches_partial_cmp = { Prim.search (comparing, rules) };
+
+    ghost matches_eq = { Prim.search (comparing, rules) };
+
+    fn cmp(&self, other: &Time) -> Ordering {
+        self.numbers.as_slice().cmp(&other.numbers.as_slice())
+    }
+}
+
+impl PartialOrd for Time {
+    ghost use Rattle.std.specs.Ordering.{nat_cmp, as_partial_cmp};
+    ghost use Rattle.std.specs.Cmp.Lexicographic.{slice_cmp};
+    ghost use Rattle.std.proofs.Common.{rules};
+    ghost use Rattle.std.specs.Cmp.Rules.{comparing};
+    ghost use Rattle.std.specs.Cmp.{partial_order_from_own_ties};
+
+    ghost partial_cmp = { as_partial_cmp (slice_cmp nat_cmp) };
+
+    ghost laws = { partial_order_from_own_ties (Prim.search (comparing, rules)) (Prim.search (comparing, rules)) };
+
+    fn partial_cmp(&self, other: &Time) -> Option<Ordering> {
+        Some(self.cmp(other))
+    }
+}

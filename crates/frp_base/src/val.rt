@@ -1,0 +1,132 @@
+ghost use Rattle.std.specs.Prelude.{◌≡◌, [], ◌∷◌, ◌++◌, map, encode_utf8, IfOk, OnOk};
+ghost use Rattle.frp_base.specs.Val.{val_text, spaced, mark, escaped};
+
+use crate::boxed::Boxed;
+use crate::memory::Memory;
+use crate::name::Name;
+use crate::seq::Seq;
+use crate::text::Text;
+use std::alloc::Global;
+
+/// A value. `Stream` and `Cell` are references to a node, and `Fun` is a function value: the number of a declared
+/// function, from 0, and its kept values.
+#[derive(Drop, PartialEq)]
+pub enum Val {
+    Int(i64),
+    Bool(bool),
+    Text(Text),
+    Pair(Boxed<Val>, Boxed<Val>),
+    List(Seq<Val>),
+    Stream(Name),
+    Cell(Name),
+    Fun(u32, Seq<Val>),
+}
+
+impl Val {
+    /// A value equal to this one.
+    #[cycle(copy)]
+    pub fn copy(&self, alloc: Global) -> Result<Val, Memory>
+        ensures { IfOk result (λ v. v ≡ self.now) }
+    {
+        match self {
+            Val::Int(n) => Ok(Val::Int(*n)),
+            Val::Bool(b) => Ok(Val::Bool(*b)),
+            Val::Text(t) => Ok(Val::Text(t.copy()?)),
+            Val::Pair(x, y) => {
+                let x = Boxed::new(alloc, x.get().copy(alloc)?)?;
+                let y = Boxed::new(alloc, y.get().copy(alloc)?)?;
+                Ok(Val::Pair(x, y))
+            }
+            Val::List(items) => Ok(Val::List(copy_all(alloc, items.as_slice())?)),
+            Val::Stream(n) => Ok(Val::Stream(n.copy()?)),
+            Val::Cell(n) => Ok(Val::Cell(n.copy()?)),
+            Val::Fun(f, kept) => Ok(Val::Fun(*f, copy_all(alloc, kept.as_slice())?)),
+        }
+    }
+
+    /// Appends the text of the value, as `-3`, `true`, `"a\"b"`, `(pair 1 2)`, `(list 1 2)`, `(stream #1)`, `(cell #2)`
+    /// and `(fun 0 7)`.
+    #[cycle(show)]
+    pub fn show(&self, alloc: Global, out: &mut Text) -> Result<(), Memory>
+        ensures { OnOk result (out.new ≡ out.old ++ val_text self.now) }
+    {
+        match self {
+            Val::Int(n) => out.push_str(n.to_string(alloc)?.as_str()),
+            Val::Bool(b) => out.push_str(if *b { "true" } else { "false" }),
+            Val::Text(t) => show_text(t, out),
+            Val::Pair(x, y) => {
+                out.push_str("(pair ")?;
+                x.get().show(alloc, out)?;
+                out.push_str(" ")?;
+                y.get().show(alloc, out)?;
+                out.push_str(")")
+            }
+            Val::List(items) => {
+                out.push_str("(list")?;
+                show_all(alloc, items.as_slice(), out)?;
+                out.push_str(")")
+            }
+            Val::Stream(n) => {
+                out.push_str("(stream ")?;
+                n.show(out)?;
+                out.push_str(")")
+            }
+            Val::Cell(n) => {
+                out.push_str("(cell ")?;
+                n.show(out)?;
+                out.push_str(")")
+            }
+            Val::Fun(f, kept) => {
+                out.push_str("(fun ")?;
+                out.push_str(f.to_string(alloc)?.as_str())?;
+                show_all(alloc, kept.as_slice(), out)?;
+                out.push_str(")")
+            }
+        }
+    }
+}
+
+/// Copies of all the values, in order.
+#[cycle(copy)]
+fn copy_all(alloc: Global, values: &[Val]) -> Result<Seq<Val>, Memory>
+    ensures { IfOk result (λ s. s ≡ values.now) }
+{
+    let mut copies = Seq::new(alloc);
+    for value in values {
+        copies.add(value.copy(alloc)?)?;
+    }
+    Ok(copies)
+}
+
+/// Appends the values' texts, each with a space before it.
+#[cycle(show)]
+fn show_all(alloc: Global, values: &[Val], out: &mut Text) -> Result<(), Memory>
+    ensures { OnOk result (out.new ≡ out.old ++ spaced (map val_text values.now)) }
+{
+    for value in values {
+        out.push_str(" ")?;
+        value.show(alloc, out)?;
+    }
+    Ok(())
+}
+
+/// Appends the text in quotes, with a backslash before each quote and each backslash in it.
+fn show_text(text: &Text, out: &mut Text) -> Result<(), Memory>
+    ensures { OnOk result (out.new ≡ out.old ++ 34 ∷ escaped text.now ++ 34 ∷ []) }
+{
+    out.push_str("\"")?;
+    for c in text.as_str().chars() {
+        show_char(c, out)?;
+    }
+    out.push_str("\"")
+}
+
+/// Appends a character, with a backslash before it where it is a quote or a backslash.
+fn show_char(c: char, out: &mut Text) -> Result<(), Memory>
+    ensures { OnOk result (out.new ≡ out.old ++ (mark c ++ encode_utf8 c)) }
+{
+    if c == '"' || c == '\\' {
+        out.push_str("\\")?;
+    }
+    out.push(c)
+}
