@@ -26,6 +26,11 @@ name_cmp = slice_cmp stage_cmp
 abbrev pub declared_name : ℕ → List Stage
 declared_name k = record { time = 0 ∷ []; item = k } ∷ []
 
+-- the number of the item, of a declared name
+abbrev pub item_of : List Stage → ℕ
+item_of [] = 0
+item_of (s ∷ ss) = s.item
+
 -- the time of the last stage, where the stages after a first one at t are these
 abbrev pub birth_after : List ℕ → List Stage → List ℕ
 birth_after t [] = t

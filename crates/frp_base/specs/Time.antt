@@ -1,5 +1,5 @@
 -- Times: lists of numbers, in lexicographic order with a prefix first.
-use Rattle.std.specs.Prelude.{ℕ, Bool, ◌==◌, List, [], ◌∷◌, ◌++◌}
+use Rattle.std.specs.Prelude.{ℕ, Bool, ◌==◌, List, [], ◌∷◌, ◌++◌, Option, Some, None, option_map}
 use Rattle.std.specs.Fmt.{decimal}
 use Rattle.std.specs.Ordering.{nat_cmp}
 use Rattle.std.specs.declared.cmp.Ordering.{Ordering}
@@ -13,6 +13,13 @@ time_eq = pointwise ◌==◌
 -- number by number from the left, and where one time is the beginning of the other, the shorter one first
 abbrev pub time_cmp : List ℕ → List ℕ → Ordering
 time_cmp = slice_cmp nat_cmp
+
+-- a time of two numbers or more is a child: its parent, and its number among the children, from 0
+abbrev pub parent_and_number : List ℕ → Option (List ℕ × ℕ)
+parent_and_number [] = None
+parent_and_number (n ∷ []) = None
+parent_and_number (n ∷ i ∷ []) = Some (n ∷ [], i)
+parent_and_number (n ∷ m ∷ i ∷ t) = option_map (λ (p : List ℕ × ℕ). (n ∷ p.0, p.1)) (parent_and_number (m ∷ i ∷ t))
 
 -- each number with a comma before it
 abbrev pub more_numbers : List ℕ → List ℕ

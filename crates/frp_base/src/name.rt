@@ -52,7 +52,7 @@ impl Model for Name {
 }
 
 impl Name {
-    ghost use Rattle.frp_base.specs.Name.{name_eq, name_text, declared_name};
+    ghost use Rattle.frp_base.specs.Name.{name_eq, name_text, declared_name, item_of};
 
     /// The name of item `item` of a file, counted from 0: it is born at the time of the build.
     pub fn declared(alloc: Global, item: u64) -> Result<Name, Memory>
@@ -64,6 +64,13 @@ impl Name {
             item,
         })?;
         Ok(Name { stages })
+    }
+
+    /// The number of the file's item with which the name begins. It takes no memory.
+    pub fn item(&self) -> u64
+        ensures { result ≡ item_of self.now }
+    {
+        self.stages.as_slice()[0].item
     }
 
     /// A name of the same stages.

@@ -1,4 +1,4 @@
-ghost use Rattle.std.specs.Prelude.{◌≡◌, [], ◌∷◌, ◌++◌, OnOk, OnErr, IfErr, ⊤};
+ghost use Rattle.std.specs.Prelude.{◌≡◌, [], ◌∷◌, ◌++◌, OnOk, OnErr, IfErr, MatchOption, ⊤};
 
 use crate::memory::Memory;
 use std::alloc::Global;
@@ -63,6 +63,13 @@ impl<T> Seq<T> {
             Ok(()) => Ok(()),
             Err(failed) => Err((Memory, failed.value)),
         }
+    }
+
+    /// Takes the last item off, where there is one. It takes no memory.
+    pub fn pop(&mut self) -> Option<T>
+        ensures { MatchOption result ((self.old ≡ []) × (self.new ≡ [])) (λ last. self.old ≡ self.new ++ last ∷ []) }
+    {
+        self.items.pop()
     }
 
     /// The allocator that the list was made with.

@@ -1,0 +1,10 @@
+pub mod Trace
+pub mod Eval
+pub mod Equations
+pub mod FirstValues
+pub mod Moments
+pub mod History
+pub mod Windows
+pub mod Legal
+pub mod Sessions
+pub mod Laws

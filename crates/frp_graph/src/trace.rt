@@ -1,0 +1,34 @@
+use crate::expr::Expr;
+use crate::shape::Shape;
+use frp_base::{Name, Seq, Time, Ty, Val};
+
+/// A live node. `first` is a cell's first value; a stream has none.
+#[derive(Drop)]
+pub struct Node {
+    pub name: Name,
+    pub shape: Shape,
+    pub ty: Ty,
+    pub first: Option<Val>,
+}
+
+/// An occurrence of a stream, or a step of a cell.
+#[derive(Drop)]
+pub struct Fact {
+    pub node: Name,
+    pub value: Val,
+}
+
+/// What happened at one time: the nodes that were born, and the streams and cells that fired, both by rising name.
+#[derive(Drop)]
+pub struct Moment {
+    pub time: Time,
+    pub born: Seq<Node>,
+    pub fired: Seq<Fact>,
+}
+
+/// A program: its expressions, by number from 0, and the nodes of its file in the order of the items.
+#[derive(Drop)]
+pub struct Prog {
+    pub codes: Seq<Expr>,
+    pub nodes: Seq<Node>,
+}
