@@ -33,6 +33,9 @@ eval_step (e.Add a b) values = v.Int (int_wrap w64 (int_of (a values) +ℤ int_o
 abbrev pub eval : Expr → List Val → Val
 eval = fold-Expr Meaning eval_step
 
--- an expression of the program on its kept values and the arguments
+-- one of these expressions, by its number, on its kept values and the arguments
+abbrev pub code_on : List Expr → Lam → List Val → Val
+code_on codes f args = eval (slice_index_or codes f.code (ex.Int (pos 0))) (f.kept ++ args)
+
 abbrev pub call : Prog → Lam → List Val → Val
-call prog f args = eval (slice_index_or prog.codes f.code (ex.Int (pos 0))) (f.kept ++ args)
+call prog = code_on prog.codes

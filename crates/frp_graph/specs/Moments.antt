@@ -45,7 +45,7 @@ is_child_due trace None = false
 is_child_due trace (Some p) = splits_at trace p.0 p.1 (moment_at trace p.0)
 
 abbrev pub is_due : List Sent → List Moment → Time → Bool
-is_due sends trace t = time_eq t build || list_any (λ s. time_eq t (s.place ∷ [])) sends || is_child_due trace (parent_and_number t)
+is_due sends trace t = time_eq build t || list_any (λ s. time_eq (s.place ∷ []) t) sends || is_child_due trace (parent_and_number t)
 
 -- the nodes that a program has born at a time: at the build, those of its file
 abbrev pub born_at : Prog → Time → List Node

@@ -26,10 +26,14 @@ abbrev pub delivered : Time → Option Val → List Delivered
 delivered t None = []
 delivered t (Some v) = record { time = t; value = v } ∷ []
 
--- the occurrences of a node at moments after the first time and before the second
+-- what happened at a node at a moment, where that is after the first time and before the second
+abbrev pub item_between : Time → Time → Name → Moment → List Delivered
+item_between from to n m = if is_lt (time_cmp from m.time) && is_lt (time_cmp m.time to) then delivered m.time (occ m n) else []
+
+-- the same for each moment
 abbrev pub between : Time → Time → Name → List Moment → List Delivered
 between from to n [] = []
-between from to n (m ∷ ms) = (if is_lt (time_cmp from m.time) && is_lt (time_cmp m.time to) then delivered m.time (occ m n) else []) ++ between from to n ms
+between from to n (m ∷ ms) = item_between from to n m ++ between from to n ms
 
 -- the value of a cell at the moments before a time, as an item of that time
 abbrev pub first_item : List Moment → Name → Time → List Delivered

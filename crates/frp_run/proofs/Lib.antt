@@ -1,0 +1,17 @@
+pub mod Settling
+pub mod Lookups
+pub mod Times
+pub mod Names
+pub mod NewMoment
+pub mod Traces
+pub mod Replies
+pub mod Cores
+pub mod Programs
+pub mod Sending
+pub mod FileAgain
+pub mod FileLawful
+pub mod FileLists
+pub mod FileSpelled
+pub mod FileWords
+pub mod Reading
+pub mod Words

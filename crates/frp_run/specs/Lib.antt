@@ -1,0 +1,9 @@
+pub mod File
+pub mod Reading
+pub mod Small
+pub mod Programs
+pub mod Engine
+pub mod Core
+pub mod Report
+pub mod Runs
+pub mod Answers

@@ -1,0 +1,44 @@
+//! The program on one thread.
+
+ghost use Rattle.std.specs.Prelude.{◌≡◌, ◌<◌, ◌^◌, ℕ, List, length, map, string_bytes, ◌⊎◌};
+ghost use Rattle.frp_io.specs.Outside.{Rose, Gave};
+ghost use Rattle.frp_run.specs.Answers.{IsReplay, IsReportOf, IsNoFile, IfRead, IfTold, IsLineOf};
+
+use crate::answer::answer_to;
+use crate::outside::write_all;
+use frp_io::{Failed, Sink, Source};
+use std::alloc::Global;
+
+/// Runs the program with these words of its command line, and gives its status. The one mode is `replay`: the input is
+/// a graph file, and the report of its session is written.
+///
+/// | status | comes only where | line |
+/// |---|---|---|
+/// | 0 | the report is written | |
+/// | 1 | the input is no file of the grammar | `refused unbuilt` |
+/// | 2 | the words are not the one word `replay` | `refused usage` |
+/// | 3 | the source failed | `refused read` |
+/// | 4 | the sink failed | |
+/// | 5 | memory is wanting | `refused memory` |
+/// | 7 | the input has more than 1,048,576 bytes | `refused size` |
+pub fn frp_plain<I: Source, O: Sink>(alloc: Global, words: &[String], source: &mut I, sink: &mut O) -> u8
+    // What is written is the report of a session of the input's file, whose history and trace are legal together, and
+    // the source was read to its end.
+    ensures report { result ≡ 0 → IfRead (I.rest source.old) (I.rest source.new) (λ bytes.
+        (text : List ℕ) × (IsReportOf bytes text × Gave (O.held sink.old) (O.held sink.new) text)) }
+
+    // The refusals, with their causes and their lines.
+    ensures no_file { result ≡ 1 → IfRead (I.rest source.old) (I.rest source.new) IsNoFile }
+    ensures usage { result ≡ 2 → IsReplay (map string_bytes words.now) → ⊥ }
+    ensures words { (IsReplay (map string_bytes words.now) → ⊥) → (result ≡ 2) ⊎ (result ≡ 4) }
+    ensures read { result ≡ 3 → Rose (I.faults source.old) (I.faults source.new) }
+    ensures write { result ≡ 4 → Rose (O.faults sink.old) (O.faults sink.new) }
+    ensures size { result ≡ 7 → IfTold (I.rest source.old) (λ bytes. 2 ^ 20 < length bytes) }
+    ensures line { (line : List ℕ) → IsLineOf result line → Gave (O.held sink.old) (O.held sink.new) line }
+{
+    let answer = answer_to(alloc, words, source);
+    match write_all(sink, answer.text().as_bytes()) {
+        Ok(()) => answer.status(),
+        Err(Failed) => 4,
+    }
+}
