@@ -3,8 +3,8 @@
 
 use frp_io::{StdSink, StdSource};
 use frp_run::frp_plain;
-use std::{env, io};
 use std::process::ExitCode;
+use std::{env, io};
 
 fn main(rt: HostRuntime) -> ExitCode {
     let mut source = StdSource::new(rt.stdin());

@@ -27,7 +27,7 @@ use Rattle.frp_graph.proofs.Each.{each_more}
 use Rattle.frp_run.specs.Small.{AreSmallFrom}
 use Rattle.frp_run.specs.Engine.{sends_at, facts_of, program_of, AreFacts}
 use Rattle.frp_run.specs.Core.{program, times_of, HasSlot, IsCore, Entered, HasLeft}
-use Rattle.frp_run.specs.declared.core.Core.{Core}
+use Rattle.frp_run.specs.declared.machine.Core.{Core}
 use Rattle.frp_run.proofs.Times.{IsBefore, at_place, sends_more, times_before, all_before, other_times, filter_append, filter_none, all_both, all_mapped, all_follow}
 use Rattle.frp_run.proofs.Settling.{settled_length}
 use Rattle.frp_run.proofs.NewMoment.{new_moment}
@@ -70,8 +70,8 @@ module _ (c : Core) (core : IsCore c) where
   sends_here : AllByRecursion (λ r. time_eq (here ∷ []) (r.place ∷ []) ≡ false) (sends_of c.entries)
   sends_here = all_follow (λ r. IsBefore here (at_place r)) _ (λ r b. ap (time_eq (here ∷ [])) b.1.0 ∙ differs here b.0 b.1.1) (sends_of c.entries)
       (all_mapped at_place (IsBefore here) (sends_of c.entries) (times_before c.entries here (omega arith)).1) where
-    differs : (n a : ℕ) → a < n → time_eq (n ∷ []) (a ∷ []) ≡ false
-    differs n a h = let e : (n == a) ≡ false = grind (arith, nat_tests) in rw e refl
+        differs : (n a : ℕ) → a < n → time_eq (n ∷ []) (a ∷ []) ≡ false
+        differs n a h = let e : (n == a) ≡ false = grind (arith, nat_tests) in rw e refl
 
   live_here : live_before c.trace here ≡ live c.trace
   live_here = ap live (all_before here c.trace moments_here)
@@ -92,7 +92,7 @@ module _ (c : Core) (core : IsCore c) where
       times = core.times ∙ ap (λ ss. build ∷ map at_place ss) (sym same_sends);
       legal = record {
         is_trace = is_trace c.trace core.small (program c) (c.entries ++ e ∷ []) (core.times ∙ ap (λ ss. build ∷ map at_place ss) (sym same_sends))
-          (subst (λ ss. AtEach (IsMoment (program c) ss) [] c.trace) (sym same_sends) core.legal.is_trace.moments);
+            (subst (λ ss. AtEach (IsMoment (program c) ss) [] c.trace) (sym same_sends) core.legal.is_trace.moments);
         replies = replies_more c.trace [] c.entries e core.legal.replies reply;
       };
       slots = all_both (λ e. HasSlot e.reply) c.entries (e ∷ []) core.slots (slot, tt);
@@ -100,17 +100,19 @@ module _ (c : Core) (core : IsCore c) where
 
     pub quiet_entered : (entries : List Entry) → entries ≡ c.entries ++ e ∷ [] → Entered c (record { codes = c.codes; entries = entries; trace = c.trace }) e
     quiet_entered entries q = subst (λ es. Entered c (record { codes = c.codes; entries = es; trace = c.trace }) e) (sym q)
-      (record { core = quiet_core; program_stays = refl; entries = refl })
+        (record { core = quiet_core; program_stays = refl; entries = refl })
 
   pub join_entered : (caller : ℕ) (node : Name) (entries : List Entry) → IsSome (node_in (live c.trace) node)
       → entries ≡ c.entries ++ record { caller = caller; cmd = Join node; reply = Joined (record { slot = here; place = here }) } ∷ []
       → Entered c (record { codes = c.codes; entries = entries; trace = c.trace }) (record { caller = caller; cmd = Join node; reply = Joined (record { slot = here; place = here }) })
-  join_entered caller node entries l q = quiet_entered (record { caller = caller; cmd = Join node; reply = Joined (record { slot = here; place = here }) }) refl refl
-      (subst (λ nodes. IsSome (node_in nodes node)) (sym live_here) l, refl,
-       λ other key n held e.
-         let s : key.slot ≡ key.place = slot_of c.entries key.place _ core.slots held.joined in
-         let b : key.place ≤ length c.entries = entry_bound c.entries key.place _ held.joined in
-         omega arith)
+  join_entered caller node entries l q = quiet_entered (record { caller = caller; cmd = Join node; reply = Joined (record { slot = here; place = here }) }) refl refl (
+    subst (λ nodes. IsSome (node_in nodes node)) (sym live_here) l,
+    refl,
+    λ other key n held e.
+        let s : key.slot ≡ key.place = slot_of c.entries key.place _ core.slots held.joined in
+        let b : key.place ≤ length c.entries = entry_bound c.entries key.place _ held.joined in
+        omega arith,
+  )
       entries q
 
   pub leave_entered : (caller : ℕ) (key : Key) (node : Name) (items : List Delivered) (entries : List Entry) → IsHeld c.entries caller key node → items ≡ window c.trace node key.place here
@@ -141,21 +143,21 @@ module _ (c : Core) (core : IsCore c) where
 
     more_times : map (λ m. m.time) (c.trace ++ m ∷ []) ≡ times_of (c.entries ++ e ∷ [])
     more_times = map_append (λ m. m.time) c.trace (m ∷ []) ∙ ap (λ ts. ts ++ (here ∷ []) ∷ []) core.times
-      ∙ ap (λ ts. build ∷ ts) (sym (map_append at_place (sends_of c.entries) (s ∷ []))) ∙ ap (λ ss. build ∷ map at_place ss) (sym more_sends)
+        ∙ ap (λ ts. build ∷ ts) (sym (map_append at_place (sends_of c.entries) (s ∷ []))) ∙ ap (λ ss. build ∷ map at_place ss) (sym more_sends)
 
     not_build : born_at (program c) (here ∷ []) ≡ []
     not_build = let z : (here == 0) ≡ false = grind (arith, nat_tests) in rw z refl
 
     old_moments : AtEach (IsMoment (program c) (sends_of c.entries ++ s ∷ [])) [] c.trace
     old_moments = each_with (IsMoment (program c) (sends_of c.entries)) (IsMoment (program c) (sends_of c.entries ++ s ∷ [])) (λ k. time_eq k.time (here ∷ []) ≡ false)
-      (λ past k i d. moment_sends (program c) (sends_of c.entries) (sends_of c.entries ++ s ∷ []) past k (λ n. sent_more (sends_of c.entries) s k.time n d) i)
-      [] c.trace core.legal.is_trace.moments (other_times here c.trace moments_here)
+        (λ past k i d. moment_sends (program c) (sends_of c.entries) (sends_of c.entries ++ s ∷ []) past k (λ n. sent_more (sends_of c.entries) s k.time n d) i)
+        [] c.trace core.legal.is_trace.moments (other_times here c.trace moments_here)
 
     last_moment : IsMoment (program c) (sends_of c.entries ++ s ∷ []) c.trace m
     last_moment = new_moment (program c) (sends_of c.entries ++ s ∷ []) here (Some f) c.trace m facts.occs refl facts.fired core.small
-      (settled_length (program c) here (Some f) facts.occs (live c.trace) facts.occs facts.settled)
-      (λ n. sent_last (sends_of c.entries) s (here ∷ []) n sends_here)
-      facts.settled (sym not_build) live_stays
+        (settled_length (program c) here (Some f) facts.occs (live c.trace) facts.occs facts.settled)
+        (λ n. sent_last (sends_of c.entries) s (here ∷ []) n sends_here)
+        facts.settled (sym not_build) live_stays
 
     same_program : record { codes = c.codes; nodes = live (c.trace ++ m ∷ []) } ≡ program c
     same_program = ap (λ ns. program_of c.codes ns) live_stays
@@ -182,7 +184,7 @@ module _ (c : Core) (core : IsCore c) where
 
     each_moment : AtEach (IsMoment (program after) (sends_of (c.entries ++ e ∷ []))) [] (c.trace ++ m ∷ [])
     each_moment = subst (λ p. AtEach (IsMoment p (sends_of (c.entries ++ e ∷ []))) [] (c.trace ++ m ∷ [])) (sym same_program)
-      (subst (λ ss. AtEach (IsMoment (program c) ss) [] (c.trace ++ m ∷ [])) (sym more_sends)
+        (subst (λ ss. AtEach (IsMoment (program c) ss) [] (c.trace ++ m ∷ [])) (sym more_sends)
         (each_more (IsMoment (program c) (sends_of c.entries ++ s ∷ [])) [] c.trace m old_moments last_moment))
 
     send_core : IsCore after
@@ -200,7 +202,7 @@ module _ (c : Core) (core : IsCore c) where
     pub send_entered : (entries : List Entry) (trace : List Moment) → entries ≡ c.entries ++ e ∷ [] → trace ≡ c.trace ++ m ∷ []
         → Entered c (record { codes = c.codes; entries = entries; trace = trace }) e
     send_entered entries trace p q = subst (λ es. Entered c (record { codes = c.codes; entries = es; trace = trace }) e) (sym p)
-      (subst (λ ts. Entered c (record { codes = c.codes; entries = c.entries ++ e ∷ []; trace = ts }) e) (sym q)
+        (subst (λ ts. Entered c (record { codes = c.codes; entries = c.entries ++ e ∷ []; trace = ts }) e) (sym q)
         (record { core = send_core; program_stays = same_program; entries = refl }))
 
 -- a fact of the answer at Ok, from another

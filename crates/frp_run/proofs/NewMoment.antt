@@ -73,18 +73,20 @@ all_map f P (x ∷ xs) h = (h.0, all_map f P xs h.1)
 pub nodes_rise : (k : ℕ) (xs : List Node) → AreSmallFrom k xs → IsStrictlySortedBy name_cmp (map (λ x. x.name) xs)
 unfolding IsStrictlySortedBy
 nodes_rise k [] s = tt
-nodes_rise k (x ∷ xs) s =
-    (subst (λ n. AllByRecursion (λ y. name_cmp n y ≡ Less) (map (λ x. x.name) xs)) (sym s.0) (all_map (λ x. x.name) (λ y. name_cmp (declared_name k) y ≡ Less) xs (above k (k + 1) xs (omega arith) s.2)),
-     nodes_rise (k + 1) xs s.2)
+nodes_rise k (x ∷ xs) s = (
+  subst (λ n. AllByRecursion (λ y. name_cmp n y ≡ Less) (map (λ x. x.name) xs)) (sym s.0) (all_map (λ x. x.name) (λ y. name_cmp (declared_name k) y ≡ Less) xs (above k (k + 1) xs (omega arith) s.2)),
+  nodes_rise (k + 1) xs s.2,
+)
 
 facts_rise : (k : ℕ) (xs : List Node) (os : List (Option Val)) → AreSmallFrom k xs → IsStrictlySortedBy name_cmp (map (λ f. f.node) (facts_of xs os))
 unfolding IsStrictlySortedBy
 facts_rise k [] os s = tt
 facts_rise k (x ∷ xs) [] s = tt
 facts_rise k (x ∷ xs) (None ∷ os) s = facts_rise (k + 1) xs os s.2
-facts_rise k (x ∷ xs) (Some v ∷ os) s =
-    (subst (λ n. AllByRecursion (λ y. name_cmp n y ≡ Less) (map (λ f. f.node) (facts_of xs os))) (sym s.0) (facts_all (λ y. name_cmp (declared_name k) y ≡ Less) xs os (above k (k + 1) xs (omega arith) s.2)),
-     facts_rise (k + 1) xs os s.2)
+facts_rise k (x ∷ xs) (Some v ∷ os) s = (
+  subst (λ n. AllByRecursion (λ y. name_cmp n y ≡ Less) (map (λ f. f.node) (facts_of xs os))) (sym s.0) (facts_all (λ y. name_cmp (declared_name k) y ≡ Less) xs os (above k (k + 1) xs (omega arith) s.2)),
+  facts_rise (k + 1) xs os s.2,
+)
 
 -- Each node is found by its name.
 
@@ -94,9 +96,10 @@ some_either (Some y) x = refl
 
 found_after : (front xs : List Node) → AllByRecursion (λ x. is_some (node_in (front ++ xs) x.name) ≡ true) xs
 found_after front [] = tt
-found_after front (x ∷ xs) =
-    (ap is_some (node_in_append front (x ∷ xs) x.name ∙ ap (or_else (node_in front x.name)) (rw (name_same x.name) refl)) ∙ some_either (node_in front x.name) x,
-     subst (λ ys. AllByRecursion (λ z. is_some (node_in ys z.name) ≡ true) xs) (append_assoc front (x ∷ []) xs) (found_after (front ++ x ∷ []) xs))
+found_after front (x ∷ xs) = (
+  ap is_some (node_in_append front (x ∷ xs) x.name ∙ ap (or_else (node_in front x.name)) (rw (name_same x.name) refl)) ∙ some_either (node_in front x.name) x,
+  subst (λ ys. AllByRecursion (λ z. is_some (node_in ys z.name) ≡ true) xs) (append_assoc front (x ∷ []) xs) (found_after (front ++ x ∷ []) xs),
+)
 
 pub found_all : (xs : List Node) → AllByRecursion (λ x. is_some (node_in xs x.name) ≡ true) xs
 found_all xs = found_after [] xs
@@ -128,7 +131,6 @@ module _ (prog : Prog) (sends : List Sent) (place : ℕ) (sent : Option Fact) (p
     (time : m.time ≡ place ∷ []) (fired : m.fired ≡ facts_of prog.nodes occs) (small : AreSmallFrom 0 prog.nodes)
     (same : length occs ≡ length prog.nodes)
     (agree : (n : Name) → sent_in sends (place ∷ []) n ≡ sent_in (sends_at place sent) (place ∷ []) n) where
-
   found : (i : ℕ) → occ m (declared_name i) ≡ flat (slice_get occs i)
   found i = ap (λ fs. fact_in fs (declared_name i)) fired ∙ ap (λ j. fact_in (facts_of prog.nodes occs) (declared_name j)) (sym (zero-add i)) ∙ fact_found 0 i prog.nodes occs same small
 
@@ -145,20 +147,21 @@ module _ (prog : Prog) (sends : List Sent) (place : ℕ) (sent : Option Fact) (p
       → ((i : ℕ) → occ m (declared_name (k + i)) ≡ flat (slice_get ys i)) → AllByRecursion (MeetsEquation prog sends (sight_of past m)) xs
   meets_from k [] ys s a f = tt
   meets_from k (x ∷ xs) [] s a f = absurd a
-  meets_from k (x ∷ xs) (y ∷ ys) s a f =
-      (ap (occ m) (s.0 ∙ ap declared_name (sym (add-zero k))) ∙ f 0 ∙ a.0 ∙ sym (row_seen k x x.shape s.1),
-       meets_from (k + 1) xs ys s.2 a.1 (λ i. let q : (k + 1) + i ≡ k + suc i = omega arith in ap (λ j. occ m (declared_name j)) q ∙ f (suc i)))
+  meets_from k (x ∷ xs) (y ∷ ys) s a f = (
+    ap (occ m) (s.0 ∙ ap declared_name (sym (add-zero k))) ∙ f 0 ∙ a.0 ∙ sym (row_seen k x x.shape s.1),
+    meets_from (k + 1) xs ys s.2 a.1 (λ i. let q : (k + 1) + i ≡ k + suc i = omega arith in ap (λ j. occ m (declared_name j)) q ∙ f (suc i)),
+  )
 
   pub new_moment : AreSettled prog place sent occs prog.nodes occs → m.born ≡ born_at prog m.time → live (past ++ m ∷ []) ≡ prog.nodes → IsMoment prog sends past m
   new_moment a b l = record {
     born = b;
     firsts = subst (AllByRecursion (λ x. HasFirst prog (live (past ++ m ∷ [])) (sight_of past m) x x.shape)) (sym b) (born_firsts prog (live (past ++ m ∷ [])) (sight_of past m) _ small);
     equations = subst (AllByRecursion (MeetsEquation prog sends (sight_of past m))) (sym l)
-      (meets_from 0 prog.nodes occs small a (λ i. ap (λ j. occ m (declared_name j)) (zero-add i) ∙ found i));
+        (meets_from 0 prog.nodes occs small a (λ i. ap (λ j. occ m (declared_name j)) (zero-add i) ∙ found i));
     facts_of_live = subst (λ nodes. AllByRecursion (λ f. is_some (node_in nodes f.node) ≡ true) m.fired) (sym l)
-      (subst (AllByRecursion (λ f. is_some (node_in prog.nodes f.node) ≡ true)) (sym fired)
+        (subst (AllByRecursion (λ f. is_some (node_in prog.nodes f.node) ≡ true)) (sym fired)
         (all_mapped (λ f. f.node) (λ n. is_some (node_in prog.nodes n) ≡ true) (facts_of prog.nodes occs)
-          (facts_all (λ n. is_some (node_in prog.nodes n) ≡ true) prog.nodes occs (found_all prog.nodes))));
+        (facts_all (λ n. is_some (node_in prog.nodes n) ≡ true) prog.nodes occs (found_all prog.nodes))));
     born_rise = subst (λ xs. IsStrictlySortedBy name_cmp (map (λ x. x.name) xs)) (sym b) (born_names_rise prog _ small);
     fired_rise = subst (λ fs. IsStrictlySortedBy name_cmp (map (λ f. f.node) fs)) (sym fired) (facts_rise 0 prog.nodes occs small);
   }

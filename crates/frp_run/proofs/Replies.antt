@@ -73,9 +73,10 @@ module _ (trace : List Moment) (m : Moment) (n : ℕ) (time : m.time ≡ n ∷ [
 
   pub replies_stay : (past es : List Entry) → length past + length es < n → AreReplies trace past es → AreReplies (trace ++ m ∷ []) past es
   replies_stay past [] h a = tt
-  replies_stay past (e ∷ es) h a =
-      (reply_stays past (length past + 1) e.caller e.cmd e.reply (omega arith) (omega arith) a.0,
-       replies_stay (past ++ e ∷ []) es (let l : length (past ++ e ∷ []) ≡ length past + 1 = length-append past (e ∷ []) in omega arith) a.1)
+  replies_stay past (e ∷ es) h a = (
+    reply_stays past (length past + 1) e.caller e.cmd e.reply (omega arith) (omega arith) a.0,
+    replies_stay (past ++ e ∷ []) es (let l : length (past ++ e ∷ []) ≡ length past + 1 = length-append past (e ∷ []) in omega arith) a.1,
+  )
 
 -- one reply more
 pub replies_more : (trace : List Moment) (past es : List Entry) (e : Entry) → AreReplies trace past es

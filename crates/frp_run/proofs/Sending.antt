@@ -20,7 +20,7 @@ use Rattle.frp_graph.specs.Legal.{is_leave, IsHeld, AreReplies}
 use Rattle.frp_graph.specs.Sessions.{calls, calls_of, keys_of, IsSession}
 use Rattle.frp_run.specs.Core.{program, IsCore, Entered, HasLeft}
 use Rattle.frp_run.specs.Runs.{sent_entry, HasSent}
-use Rattle.frp_run.specs.declared.core.Core.{Core}
+use Rattle.frp_run.specs.declared.machine.Core.{Core}
 use Rattle.frp_run.proofs.Cores.{append_nil}
 
 -- what holds of each holds at an index
@@ -44,7 +44,7 @@ sent_more old mid new facts i f l g h e = record {
   core = e.core;
   program_stays = e.program_stays ∙ h.program_stays;
   entries = e.entries ∙ ap (λ es. es ++ sent_entry f ∷ []) h.entries ∙ append_assoc old.entries (map sent_entry (take i facts)) (sent_entry f ∷ [])
-    ∙ ap (λ es. old.entries ++ es) (sym (ap (map sent_entry) (take_more facts i f l ∙ ap (λ x. take i facts ++ x ∷ []) (sym g)) ∙ map_append sent_entry (take i facts) (f ∷ [])));
+      ∙ ap (λ es. old.entries ++ es) (sym (ap (map sent_entry) (take_more facts i f l ∙ ap (λ x. take i facts ++ x ∷ []) (sym g)) ∙ map_append sent_entry (take i facts) (f ∷ [])));
 }
 
 abbrev send_cmd : Fact → Cmd
@@ -106,9 +106,14 @@ still_held c n k fs core e =
 -- an empty script is the script of no sender
 pub no_script : (ls : List Name) (entries : List Entry) → IsSession ls ([] ∷ []) entries → IsSession ls [] entries
 no_script ls entries s = record {
-  joins = s.joins; sends = s.sends; leaves = s.leaves; in_order = s.in_order; joined = s.joined;
+  joins = s.joins;
+  sends = s.sends;
+  leaves = s.leaves;
+  in_order = s.in_order;
+  joined = s.joined;
   sent = λ i. s.sent i ∙ none i;
-  only_scripts = s.only_scripts; left = s.left;
+  only_scripts = s.only_scripts;
+  left = s.left;
 } where
   none : (i : ℕ) → map send_cmd (slice_index_or ([] ∷ []) i []) ≡ map send_cmd (slice_index_or [] i [])
   none zero = refl

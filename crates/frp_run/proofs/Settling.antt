@@ -82,8 +82,8 @@ module _ (prog : Prog) (place : ℕ) (sent : Option Fact) where
       let m : IsSmall i x x.shape = subst (λ y. IsSmall i y y.shape) (sym e) (subst (λ j. IsSmall j (get_or nodes i x) (get_or nodes i x).shape) (zero-add i) (small_at 0 nodes i x h s)) in
       let f : take (i + 1) nodes ≡ take i nodes ++ x ∷ [] = take_more nodes i x h ∙ ap (λ y. take i nodes ++ y ∷ []) (sym e) in
       rw f (settled_push (os ++ o ∷ []) (take i nodes) os x o
-        (settled_seen os o 0 (take i nodes) os (omega arith) (small_front 0 i nodes s) a)
-        (r ∙ sym (row_more os o i x x.shape (omega arith) m)))
+      (settled_seen os o 0 (take i nodes) os (omega arith) (small_front 0 i nodes s) a)
+      (r ∙ sym (row_more os o i x x.shape (omega arith) m)))
 
 -- the fact of a node with this occurrence, where it has one
 abbrev pub fact_here : Node → Option Val → List Fact

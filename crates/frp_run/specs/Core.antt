@@ -14,7 +14,7 @@ use Rattle.frp_graph.specs.Moments.{build}
 use Rattle.frp_graph.specs.History.{sends_of}
 use Rattle.frp_graph.specs.Legal.{IsLegal}
 use Rattle.frp_run.specs.Small.{AreSmallFrom}
-use Rattle.frp_run.specs.declared.core.Core.{Core}
+use Rattle.frp_run.specs.declared.machine.Core.{Core}
 
 -- the program: the core's expressions, and the nodes that were born
 abbrev pub program : Core → Prog

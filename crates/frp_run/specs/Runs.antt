@@ -5,7 +5,7 @@ use Rattle.frp_graph.specs.declared.history.Cmd.TheVariants.{Send}
 use Rattle.frp_graph.specs.declared.history.Reply.TheVariants.{Accepted}
 use Rattle.frp_graph.specs.declared.history.Entry.{Entry}
 use Rattle.frp_run.specs.Core.{IsCore, program}
-use Rattle.frp_run.specs.declared.core.Core.{Core}
+use Rattle.frp_run.specs.declared.machine.Core.{Core}
 
 -- the entry of an accepted send of the first script
 abbrev pub sent_entry : Fact → Entry

@@ -13,7 +13,13 @@ use frp_graph::{Expr, Fact, Lam, Node, Shape, value_of};
 use std::alloc::Global;
 
 /// The facts of the moment at the time of `place`, where this is sent.
-pub fn settle(alloc: Global, codes: &[Expr], nodes: &[Node], place: u64, sent: Option<&Fact>) -> Result<Seq<Fact>, Memory>
+pub fn settle(
+    alloc: Global,
+    codes: &[Expr],
+    nodes: &[Node],
+    place: u64,
+    sent: Option<&Fact>,
+) -> Result<Seq<Fact>, Memory>
     requires { AreSmallFrom 0 nodes.now }
     ensures { IfOk result (λ fs. AreFacts (program_of codes.now nodes.now) place (option_copied sent.entry) fs) }
 {
@@ -67,7 +73,12 @@ fn occurrence(
 }
 
 /// What is sent to a sink of this name.
-fn sent_to(alloc: Global, place: u64, sent: Option<&Fact>, name: &Name) -> Result<Option<Val>, Memory>
+fn sent_to(
+    alloc: Global,
+    place: u64,
+    sent: Option<&Fact>,
+    name: &Name,
+) -> Result<Option<Val>, Memory>
     ensures { IfOk result (λ o. o ≡ sent_in (sends_at place (option_copied sent.entry)) (place ∷ []) name.now) }
 {
     match sent {

@@ -2,15 +2,17 @@
 #![tactic(auto)]
 
 mod answer;
-mod core;
 mod engine;
 mod file;
+mod machine;
 mod outside;
 mod plain;
 mod program;
 mod reader;
 mod report;
 mod runs;
+#[cfg(test)]
+mod tests;
 mod windows;
 
 pub use plain::frp_plain;

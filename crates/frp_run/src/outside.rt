@@ -17,7 +17,11 @@ pub enum SourceStop {
 
 /// All bytes of a source, of which there are at most `most`.
 #[tactic(auto, using(frp_io::proofs::Bytes::took_none, frp_io::proofs::Bytes::took_more, frp_io::proofs::Bytes::zero_ended, crate::proofs::Reading::took_longer))]
-pub fn read_all<S: Source>(alloc: Global, source: &mut S, most: usize) -> Result<Vec<u8>, SourceStop>
+pub fn read_all<S: Source>(
+    alloc: Global,
+    source: &mut S,
+    most: usize,
+) -> Result<Vec<u8>, SourceStop>
     ensures bytes { IfOk result (λ v. Took (S.rest source.old) (S.rest source.new) v.items) }
     ensures end { IfOk result (λ v. Ended (S.rest source.new)) }
     ensures failed { result ≡ Err SourceStop.Failed → Rose (S.faults source.old) (S.faults source.new) }

@@ -21,7 +21,12 @@ use std::alloc::Global;
 /// | 4 | the sink failed | |
 /// | 5 | memory is wanting | `refused memory` |
 /// | 7 | the input has more than 1,048,576 bytes | `refused size` |
-pub fn frp_plain<I: Source, O: Sink>(alloc: Global, words: &[String], source: &mut I, sink: &mut O) -> u8
+pub fn frp_plain<I: Source, O: Sink>(
+    alloc: Global,
+    words: &[String],
+    source: &mut I,
+    sink: &mut O,
+) -> u8
     // What is written is the report of a session of the input's file, whose history and trace are legal together, and
     // the source was read to its end.
     ensures report { result ≡ 0 → IfRead (I.rest source.old) (I.rest source.new) (λ bytes.

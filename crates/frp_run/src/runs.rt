@@ -11,8 +11,8 @@ ghost use Rattle.frp_run.specs.Small.{AreSmallFrom};
 ghost use Rattle.frp_run.specs.Core.{IsCore, program};
 ghost use Rattle.frp_run.specs.Runs.{HasSent};
 
-use crate::core::Core;
 use crate::file::File;
+use crate::machine::Core;
 use crate::program::{listen, program, script};
 use frp_base::{Memory, Name};
 use frp_graph::{Fact, Prog};

@@ -11,7 +11,13 @@ use frp_graph::{Delivered, Fact, Moment, Node};
 use std::alloc::Global;
 
 /// What a listener of a node that joined at place `from` is given by place `to`.
-pub fn window_of(alloc: Global, trace: &[Moment], name: &Name, from: u64, to: u64) -> Result<Seq<Delivered>, Memory>
+pub fn window_of(
+    alloc: Global,
+    trace: &[Moment],
+    name: &Name,
+    from: u64,
+    to: u64,
+) -> Result<Seq<Delivered>, Memory>
     ensures { IfOk result (λ items. items ≡ window trace.now name.now from to) }
 {
     let start = Time::top(alloc, from);
@@ -40,7 +46,13 @@ fn push_all_between(
 }
 
 /// Adds the value of a cell before a time, as an item of that time.
-fn push_first(alloc: Global, trace: &[Moment], name: &Name, start: &Time, items: &mut Seq<Delivered>) -> Result<(), Memory>
+fn push_first(
+    alloc: Global,
+    trace: &[Moment],
+    name: &Name,
+    start: &Time,
+    items: &mut Seq<Delivered>,
+) -> Result<(), Memory>
     ensures { OnOk result (items.new ≡ items.old ++ first_item trace.now name.now start.now) }
 {
     if !is_cell_before(trace, name, start) {
@@ -105,11 +117,7 @@ fn node_before<'a>(trace: &'a [Moment], name: &Name, time: &Time) -> Option<&'a 
 fn is_cell_ty(ty: &Ty) -> bool
     ensures { result ≡ is_cell_type (out-Ty ty.now) }
 {
-    if let Ty::Cell(_) = ty {
-        true
-    } else {
-        false
-    }
+    if let Ty::Cell(_) = ty { true } else { false }
 }
 
 /// A cell's value after the moments before a time.

@@ -13,11 +13,11 @@ pub send-requires-clause-sink : goal.send-requires-clause-sink
 send-requires-clause-sink c =
     let old = c.args.core.now in
     let k : is_sink (node_in (live old.trace) c.fact-item.result.node) ≡ true =
-        all_at (λ f. is_sink (node_in (live old.trace) f.node) ≡ true) c.args.script.now c.loop-fact.fact-index c.fact-item.result c.requires.sends c.loop-fact-test.true c.fact-item.is in
+    all_at (λ f. is_sink (node_in (live old.trace) f.node) ≡ true) c.args.script.now c.loop-fact.fact-index c.fact-item.result c.requires.sends c.loop-fact-test.true c.fact-item.is in
     (λ i. is_sink (node_in (same_live old c.loop-fact.core c.loop-fact.invariant.program_stays i) (c.in_ok-copy.ensures i))) ∙ k
 
 pub loop-fact-preserved : goal.loop-fact-preserved
 loop-fact-preserved c =
     let e : Entered c.loop-fact.core c.send.new.self (sent_entry c.fact-item.result) =
-        transport (λ i. Entered c.loop-fact.core c.send.new.self (record { caller = 1; cmd = Send (c.in_ok-copy.ensures i) (c.in_ok-copy-2.ensures i); reply = Accepted 1 })) c.in_ok-send.ensures.ok in
+    transport (λ i. Entered c.loop-fact.core c.send.new.self (record { caller = 1; cmd = Send (c.in_ok-copy.ensures i) (c.in_ok-copy-2.ensures i); reply = Accepted 1 })) c.in_ok-send.ensures.ok in
     sent_more c.args.core.now c.loop-fact.core c.send.new.self c.args.script.now c.loop-fact.fact-index c.fact-item.result c.loop-fact-test.true c.fact-item.is c.loop-fact.invariant e

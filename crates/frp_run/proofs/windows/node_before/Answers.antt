@@ -13,7 +13,8 @@ returns-in-Some c =
 
 pub loop-moment-preserved : goal.loop-moment-preserved
 loop-moment-preserved c = elim c.if-lt.branch [
-    then-lt+in_default w ↦
-        let e : node_in c.moment-item.result.born c.args.name.now ≡ None = ap (λ xs. node_in xs c.args.name.now) (sym w.as_slice.ensures) ∙ sym w.in_default.ensures in
-        sym (node_missed c.args.time.now c.args.name.now c.args.trace.now c.loop-moment.moment-index c.moment-item.result c.loop-moment-test.true c.moment-item.is (sym c.lt.ensures ∙ w.if-lt.true) e) ∙ c.loop-moment.invariant
-  | else-lt w ↦ sym (moment_missed c.args.time.now c.args.name.now c.args.trace.now c.loop-moment.moment-index c.moment-item.result c.loop-moment-test.true c.moment-item.is (sym c.lt.ensures ∙ w.if-lt.false)) ∙ c.loop-moment.invariant ]
+  | then-lt+in_default w ↦
+      let e : node_in c.moment-item.result.born c.args.name.now ≡ None = ap (λ xs. node_in xs c.args.name.now) (sym w.as_slice.ensures) ∙ sym w.in_default.ensures in
+      sym (node_missed c.args.time.now c.args.name.now c.args.trace.now c.loop-moment.moment-index c.moment-item.result c.loop-moment-test.true c.moment-item.is (sym c.lt.ensures ∙ w.if-lt.true) e) ∙ c.loop-moment.invariant
+  | else-lt w ↦ sym (moment_missed c.args.time.now c.args.name.now c.args.trace.now c.loop-moment.moment-index c.moment-item.result c.loop-moment-test.true c.moment-item.is (sym c.lt.ensures ∙ w.if-lt.false)) ∙ c.loop-moment.invariant
+]

@@ -70,7 +70,13 @@ impl Core {
         ensures err { OnErr result (self.new ≡ self.old) }
     {
         let place = self.entries.as_slice().len() as u64 + 1;
-        let fired = settle(alloc, self.codes.as_slice(), self.nodes(), place, Some(&fact))?;
+        let fired = settle(
+            alloc,
+            self.codes.as_slice(),
+            self.nodes(),
+            place,
+            Some(&fact),
+        )?;
         self.trace.add(Moment {
             time: Time::top(alloc, place),
             born: Seq::new(alloc),

@@ -1,5 +1,5 @@
 use Rattle.frp_run.proofs.Cores.{join_entered}
-use Rattle.frp_run.proofs.core.Core.join.Goals as goal
+use Rattle.frp_run.proofs.machine.Core.join.Goals as goal
 
 pub returns-clause-ok : goal.returns-clause-ok
 returns-clause-ok c = rw c.as_slice.ensures

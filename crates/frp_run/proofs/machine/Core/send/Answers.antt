@@ -4,16 +4,16 @@ use Rattle.frp_graph.specs.declared.trace.Moment.{Moment}
 use Rattle.frp_run.specs.Engine.{AreFacts, program_of}
 use Rattle.frp_graph.specs.Trace.{live}
 use Rattle.frp_run.proofs.Cores.{on_ok, send_entered}
-use Rattle.frp_run.proofs.core.Core.send.Goals as goal
+use Rattle.frp_run.proofs.machine.Core.send.Goals as goal
 
 pub returns-else-is_err-clause-ok : goal.returns-else-is_err-clause-ok
 returns-else-is_err-clause-ok c =
     let old = c.args.self.now in
     let facts : AreFacts (program_of old.codes (live old.trace)) (length old.entries + 1) (Some c.args.fact) c.in_ok-fired.fired =
-        transport (λ i. AreFacts (program_of (c.as_slice-2.ensures i) (c.nodes.ensures i)) (length (c.as_slice.ensures i) + 1) (Some c.args.fact) c.in_ok-fired.fired) c.in_ok-fired.ensures in
+    transport (λ i. AreFacts (program_of (c.as_slice-2.ensures i) (c.nodes.ensures i)) (length (c.as_slice.ensures i) + 1) (Some c.args.fact) c.in_ok-fired.fired) c.in_ok-fired.ensures in
     let trace : c.add.new.self ≡ old.trace ++ record { time = (length old.entries + 1) ∷ []; born = []; fired = c.in_ok-fired.fired } ∷ [] =
-        c.in_ok-add.ensures.ok ∙ ap (λ (m : Moment). old.trace ++ m ∷ [])
-          (λ i. record { time = (c.top.ensures ∙ ap (λ es. (length es + 1) ∷ []) c.as_slice.ensures) i; born = c.new.ensures i; fired = c.in_ok-fired.fired }) in
+    c.in_ok-add.ensures.ok ∙ ap (λ (m : Moment). old.trace ++ m ∷ [])
+    (λ i. record { time = (c.top.ensures ∙ ap (λ es. (length es + 1) ∷ []) c.as_slice.ensures) i; born = c.new.ensures i; fired = c.in_ok-fired.fired }) in
     on_ok c.add-added.result
-      (λ entries. send_entered old c.requires.core c.args.caller c.args.fact c.in_ok-fired.fired facts c.requires.sink c.add-added.new.self c.add.new.self entries trace)
-      c.add-added.ensures.ok
+    (λ entries. send_entered old c.requires.core c.args.caller c.args.fact c.in_ok-fired.fired facts c.requires.sink c.add-added.new.self c.add.new.self entries trace)
+    c.add-added.ensures.ok
