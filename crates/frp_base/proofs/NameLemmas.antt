@@ -1,5 +1,5 @@
 -- the test of equality of names decides equality
-use Rattle.std.proofs.Common.{◌≡◌, ℕ, List, Bool, true, false, refl, ap}
+use Rattle.std.proofs.Common.{◌≡◌, List, Bool, true, false, refl, ap}
 use Rattle.std.specs.Prelude.{◌&&◌}
 use Rattle.std.specs.Bool.{Decides}
 use Rattle.std.specs.Cmp.{unsigned_Decides}

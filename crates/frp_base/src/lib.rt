@@ -20,3 +20,6 @@ pub use text::Text;
 pub use time::Time;
 pub use ty::Ty;
 pub use val::Val;
+
+#[cfg(test)]
+mod tests;

@@ -10,7 +10,8 @@ use std::marker::Model;
 
 /// A time: a list of one number or more, four of them kept inline. Times are ordered as lists are, number by
 /// number, and a time comes before those that it begins: `[3] < [3,0] < [3,0,1] < [3,1] < [4]`.
-/// After the published semantics of Sodium, where a split gives its items at the children of a time.
+/// After the published semantics of Sodium: the children of a time are the times of one number more, and a split gives
+/// its items there.
 #[derive(Drop)]
 pub struct Time {
     numbers: SmallVec<u64, 4>,

@@ -1,5 +1,5 @@
 -- The value of an expression over a list of values, and of an expression of the program with kept values.
-use Rattle.std.specs.Prelude.{ℕ, ℤ, pos, ◌+ℤ◌, Bool, false, List, [], ◌++◌, slice_index_or}
+use Rattle.std.specs.Prelude.{ℤ, pos, ◌+ℤ◌, List, ◌++◌, slice_index_or}
 use Rattle.std.specs.Int.{int_wrap, w64}
 use Rattle.frp_base.specs.declared.val.Val.{Val, out-Val}
 use Rattle.frp_base.specs.declared.val.Val.TheOpen.{Val-F}

@@ -1,7 +1,5 @@
 -- The first value that a cell has at its birth, by its shape. A stream has none.
-use Rattle.std.specs.Prelude.{◌≡◌, List, [], ◌∷◌, Option, None, IsSome, option_map, option_and_then}
-use Rattle.frp_base.specs.declared.name.Name.{Name}
-use Rattle.frp_base.specs.declared.val.Val.{Val}
+use Rattle.std.specs.Prelude.{◌≡◌, List, [], ◌∷◌, None, IsSome, option_map, option_and_then}
 use Rattle.frp_graph.specs.declared.trace.Node.{Node}
 use Rattle.frp_graph.specs.declared.trace.Prog.{Prog}
 use Rattle.frp_graph.specs.declared.shape.Shape.{Shape}

@@ -1,5 +1,5 @@
 -- A history and a trace that are legal together.
-use Rattle.std.specs.Prelude.{◌≡◌, ℕ, ◌+◌, Bool, true, false, ◌&&◌, ◌==◌, List, [], ◌∷◌, ◌++◌, Option, Some, None, is_some, IsTrue, IsSome, length, filter, ⊤}
+use Rattle.std.specs.Prelude.{◌≡◌, ℕ, ◌+◌, Bool, true, false, ◌&&◌, ◌==◌, List, [], ◌∷◌, ◌++◌, Option, Some, None, IsTrue, IsSome, length, filter, ⊤}
 use Rattle.std.specs.List.{list_any}
 use Rattle.frp_base.specs.declared.time.Time.{Time}
 use Rattle.frp_base.specs.declared.name.Name.{Name}

@@ -1,20 +1,18 @@
 -- Which times have a moment, and when a trace meets the equations.
-use Rattle.std.specs.Prelude.{◌≡◌, ℕ, Bool, true, false, not, ◌||◌, ◌&&◌, nat_lt, List, [], ◌∷◌, ◌++◌, Option, Some, None, is_some, option_map, option_and_then, IsTrue, map, length, filter, if◌then◌else◌, ⊤}
+use Rattle.std.specs.Prelude.{◌≡◌, ℕ, Bool, false, not, ◌||◌, nat_lt, List, [], ◌∷◌, ◌++◌, Option, Some, None, is_some, IsTrue, map, length, filter, if◌then◌else◌, ⊤}
 use Rattle.std.specs.List.{AllByRecursion, list_any}
 use Rattle.std.specs.List.Sorted.{IsStrictlySortedBy}
 use Rattle.std.specs.Ordering.{is_gt}
 use Rattle.frp_base.specs.declared.time.Time.{Time}
-use Rattle.frp_base.specs.declared.name.Name.{Name}
 use Rattle.frp_base.specs.declared.val.Val.{Val, out-Val}
 use Rattle.frp_base.specs.Time.{time_eq, time_cmp, parent_and_number}
-use Rattle.frp_base.specs.Name.{name_eq, name_cmp}
+use Rattle.frp_base.specs.Name.{name_cmp}
 use Rattle.frp_graph.specs.declared.trace.Node.{Node}
-use Rattle.frp_graph.specs.declared.trace.Fact.{Fact}
 use Rattle.frp_graph.specs.declared.trace.Moment.{Moment}
 use Rattle.frp_graph.specs.declared.trace.Prog.{Prog}
 use Rattle.frp_graph.specs.declared.shape.Shape.{Shape}
 use Rattle.frp_graph.specs.declared.shape.Shape.TheVariants.{Split}
-use Rattle.frp_graph.specs.Trace.{live, moment_at, occ, node_in, Sight, sight_of}
+use Rattle.frp_graph.specs.Trace.{live, moment_at, occ, node_in, sight_of}
 use Rattle.frp_graph.specs.Equations.{Sent, items_in, MeetsEquation}
 use Rattle.frp_graph.specs.FirstValues.{HasFirst}
 

@@ -36,9 +36,5 @@ fn sum(a: &Val, b: &Val) -> i64
 fn number(value: &Val) -> i64
     ensures { result ≡ int_of value.now }
 {
-    if let Val::Int(n) = value {
-        *n
-    } else {
-        0
-    }
+    if let Val::Int(n) = value { *n } else { 0 }
 }

@@ -17,25 +17,16 @@ pub struct Delivered {
 /// A command of a caller: a value for a sink, a listener that joins a node, a listener that leaves.
 #[derive(Drop)]
 pub enum Cmd {
-    Send {
-        sink: Name,
-        value: Val,
-    },
-    Join {
-        node: Name,
-    },
-    Leave {
-        key: Key,
-    },
+    Send { sink: Name, value: Val },
+    Join { node: Name },
+    Leave { key: Key },
 }
 
 /// The reply to a command: the number of moments of an accepted send, the key of a listener that joined, all that a
 /// listener that left was still to be given.
 #[derive(Drop)]
 pub enum Reply {
-    Accepted {
-        moments: u64,
-    },
+    Accepted { moments: u64 },
     Joined(Key),
     Left(Seq<Delivered>),
 }

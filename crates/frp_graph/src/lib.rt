@@ -14,3 +14,6 @@ pub use history::{Cmd, Delivered, Entry, Key, Reply};
 pub use laws::{before_is_strict, earlier_moments_stay, one_occurrence};
 pub use shape::{Lam, Shape};
 pub use trace::{Fact, Moment, Node, Prog};
+
+#[cfg(test)]
+mod tests;

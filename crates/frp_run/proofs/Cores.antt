@@ -1,31 +1,28 @@
 -- A core stays one as entries are added.
-use Rattle.std.proofs.Common.{◌≡◌, ℕ, ◌+◌, ◌<◌, ◌≤◌, suc, zero, Bool, true, false, List, [], ◌∷◌, ◌++◌, map, length, Option, Some, None, refl, sym, ap, ◌∙◌, subst, arith, append_assoc}
-use Rattle.std.specs.Prelude.{Result, Ok, Err, OnOk, slice_get, IsSomeAnd, IsSome, filter, ◌==◌, if◌then◌else◌}
+use Rattle.std.proofs.Common.{◌≡◌, ℕ, ◌+◌, ◌<◌, ◌≤◌, suc, zero, true, false, List, [], ◌∷◌, ◌++◌, map, length, Some, None, refl, sym, ap, ◌∙◌, subst, arith}
+use Rattle.std.specs.Prelude.{Result, Ok, Err, OnOk, slice_get, IsSomeAnd, IsSome, filter, ◌==◌}
 use Rattle.std.specs.List.{AllByRecursion}
 use Rattle.std.proofs.lemmas.Bool.Decides.{nat_tests}
-use Rattle.frp_base.specs.declared.time.Time.{Time}
 use Rattle.frp_base.specs.declared.name.Name.{Name}
-use Rattle.frp_base.specs.declared.val.Val.{Val}
 use Rattle.frp_base.specs.Time.{time_eq}
 use Rattle.frp_graph.specs.declared.expr.Expr.{Expr}
 use Rattle.frp_graph.specs.declared.trace.Node.{Node}
 use Rattle.frp_graph.specs.declared.trace.Fact.{Fact}
 use Rattle.frp_graph.specs.declared.trace.Moment.{Moment}
-use Rattle.frp_graph.specs.declared.trace.Prog.{Prog}
 use Rattle.frp_graph.specs.declared.history.Key.{Key}
 use Rattle.frp_graph.specs.declared.history.Delivered.{Delivered}
 use Rattle.frp_graph.specs.declared.history.Cmd.TheVariants.{Send, Join, Leave}
 use Rattle.frp_graph.specs.declared.history.Reply.TheVariants.{Accepted, Joined, Left}
 use Rattle.frp_graph.specs.declared.history.Entry.{Entry}
-use Rattle.frp_graph.specs.Trace.{live, node_in, moments_before}
-use Rattle.frp_graph.specs.Equations.{Sent, sent_in}
+use Rattle.frp_graph.specs.Trace.{live, node_in}
+use Rattle.frp_graph.specs.Equations.{Sent}
 use Rattle.frp_graph.specs.Moments.{build, born_at, IsMoment, AtEach}
-use Rattle.frp_graph.specs.History.{send_of, sends_from, sends_of, entry_at}
+use Rattle.frp_graph.specs.History.{send_of, sends_of, entry_at}
 use Rattle.frp_graph.specs.Windows.{window}
-use Rattle.frp_graph.specs.Legal.{is_of, moments_of, is_sink, live_before, IsHeld, IsReply, AreReplies, IsLegal}
+use Rattle.frp_graph.specs.Legal.{is_of, moments_of, is_sink, live_before, IsHeld, IsReply}
 use Rattle.frp_graph.proofs.Each.{each_more}
 use Rattle.frp_run.specs.Small.{AreSmallFrom}
-use Rattle.frp_run.specs.Engine.{sends_at, facts_of, program_of, AreFacts}
+use Rattle.frp_run.specs.Engine.{program_of, AreFacts}
 use Rattle.frp_run.specs.Core.{program, times_of, HasSlot, IsCore, Entered, HasLeft}
 use Rattle.frp_run.specs.declared.machine.Core.{Core}
 use Rattle.frp_run.proofs.Times.{IsBefore, at_place, sends_more, times_before, all_before, other_times, filter_append, filter_none, all_both, all_mapped, all_follow}

@@ -1,5 +1,5 @@
 -- The moment that the plain engine makes is one that the program has.
-use Rattle.std.proofs.Common.{◌≡◌, ℕ, ◌+◌, ◌<◌, ◌≤◌, suc, zero, Bool, true, false, List, [], ◌∷◌, ◌++◌, map, length, Option, Some, None, refl, sym, ap, ◌∙◌, subst, arith, zero-add, add-zero, append_assoc}
+use Rattle.std.proofs.Common.{◌≡◌, ℕ, ◌+◌, ◌<◌, suc, zero, Bool, true, false, List, [], ◌∷◌, ◌++◌, map, length, Option, Some, None, refl, sym, ap, ◌∙◌, subst, arith, zero-add, add-zero, append_assoc}
 use Rattle.std.specs.Prelude.{slice_get, option_map, option_and_then, is_some, if◌then◌else◌}
 use Rattle.std.specs.List.{AllByRecursion}
 use Rattle.std.specs.List.Sorted.{IsStrictlySortedBy}
@@ -12,16 +12,16 @@ use Rattle.frp_graph.specs.declared.trace.Fact.{Fact}
 use Rattle.frp_graph.specs.declared.trace.Moment.{Moment}
 use Rattle.frp_graph.specs.declared.trace.Prog.{Prog}
 use Rattle.frp_graph.specs.declared.shape.Shape.{Shape}
-use Rattle.frp_graph.specs.declared.shape.Shape.TheVariants.{Sink, Never, Constant, Map, Filter, Merge, Snapshot, Split, Updates, Value, Loop, Hold, Mapc, Apply, Switchs, Switchc, Execute}
+use Rattle.frp_graph.specs.declared.shape.Shape.TheVariants.{Sink, Map, Hold}
 use Rattle.frp_graph.specs.Trace.{or_else, fact_in, node_in, live, occ, Sight, sight_of}
 use Rattle.frp_graph.specs.Equations.{Sent, sent_in, row, MeetsEquation}
 use Rattle.frp_graph.specs.FirstValues.{HasFirst}
-use Rattle.frp_graph.specs.Moments.{build, born_at, IsMoment}
+use Rattle.frp_graph.specs.Moments.{born_at, IsMoment}
 use Rattle.frp_run.specs.Small.{IsEarlier, IsSmall, AreSmallFrom}
-use Rattle.frp_run.specs.Engine.{sends_at, occ_at, sees, AreSettled, facts_of, AreFacts}
+use Rattle.frp_run.specs.Engine.{sends_at, occ_at, sees, AreSettled, facts_of}
 use Rattle.frp_run.proofs.Lookups.{node_in_append}
 use Rattle.frp_run.proofs.Names.{name_same, declared_differs, declared_less}
-use Rattle.frp_run.proofs.Times.{all_follow, all_mapped}
+use Rattle.frp_run.proofs.Times.{all_mapped}
 
 -- The facts of nodes in order, looked up by their names.
 

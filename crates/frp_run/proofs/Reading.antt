@@ -1,5 +1,5 @@
 -- Of a source that tells its bytes, what was taken is no longer than what there was.
-use Rattle.std.proofs.Common.{◌≡◌, ℕ, ◌+◌, ◌<◌, ◌≤◌, List, [], ◌∷◌, ◌++◌, Option, Some, None, length, refl, sym, ap, ◌∙◌, subst, arith, length-append}
+use Rattle.std.proofs.Common.{◌≡◌, ℕ, ◌+◌, ◌<◌, List, [], ◌∷◌, ◌++◌, Option, Some, None, length, refl, sym, ap, ◌∙◌, subst, arith, length-append}
 use Rattle.frp_io.specs.Outside.{Took, Ended}
 use Rattle.frp_run.specs.Answers.{IfRead, IfTold}
 

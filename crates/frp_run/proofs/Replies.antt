@@ -1,23 +1,22 @@
 -- A moment more, at a time after them, leaves earlier replies as they were.
-use Rattle.std.proofs.Common.{◌≡◌, ℕ, ◌+◌, ◌<◌, ◌≤◌, suc, zero, Bool, true, false, cond, List, [], ◌∷◌, ◌++◌, map, length, Option, Some, None, refl, sym, ap, ◌∙◌, subst, arith, append_assoc, length-append}
-use Rattle.std.specs.Prelude.{is_some, filter, slice_get, ◌&&◌, ◌==◌, if◌then◌else◌, IsSome}
+use Rattle.std.proofs.Common.{◌≡◌, ℕ, ◌+◌, ◌<◌, ◌≤◌, suc, zero, Bool, true, false, List, [], ◌∷◌, ◌++◌, length, Some, refl, sym, ap, ◌∙◌, subst, arith, append_assoc, length-append}
+use Rattle.std.specs.Prelude.{filter, slice_get, ◌&&◌, ◌==◌, if◌then◌else◌, IsSome}
 use Rattle.std.specs.Ordering.{is_lt}
 use Rattle.std.proofs.lemmas.Bool.Decides.{nat_tests}
 use Rattle.frp_base.specs.declared.time.Time.{Time}
 use Rattle.frp_base.specs.declared.name.Name.{Name}
 use Rattle.frp_base.specs.Time.{time_cmp}
 use Rattle.frp_graph.specs.declared.trace.Moment.{Moment}
-use Rattle.frp_graph.specs.declared.history.Key.{Key}
 use Rattle.frp_graph.specs.declared.history.Delivered.{Delivered}
 use Rattle.frp_graph.specs.declared.history.Cmd.{Cmd}
 use Rattle.frp_graph.specs.declared.history.Cmd.TheVariants.{Send, Join, Leave}
 use Rattle.frp_graph.specs.declared.history.Reply.{Reply}
 use Rattle.frp_graph.specs.declared.history.Reply.TheVariants.{Accepted, Joined, Left}
 use Rattle.frp_graph.specs.declared.history.Entry.{Entry}
-use Rattle.frp_graph.specs.Trace.{live, node_in, moments_before, value_after, occ}
+use Rattle.frp_graph.specs.Trace.{live, node_in, moments_before, value_after}
 use Rattle.frp_graph.specs.History.{entry_at}
-use Rattle.frp_graph.specs.Windows.{window, first_item, between, item_between, is_cell, delivered}
-use Rattle.frp_graph.specs.Legal.{is_of, moments_of, is_sink, live_before, IsHeld, IsReply, AreReplies}
+use Rattle.frp_graph.specs.Windows.{window, between, item_between, is_cell, delivered}
+use Rattle.frp_graph.specs.Legal.{is_of, moments_of, is_sink, IsReply, AreReplies}
 use Rattle.frp_run.proofs.Times.{time_not_less, filter_append}
 
 append_nil : {A : Type 0} (xs : List A) → xs ++ [] ≡ xs

@@ -1,23 +1,22 @@
 -- A session, from its entries.
-use Rattle.std.proofs.Common.{◌≡◌, ℕ, ◌+◌, ◌<◌, ◌≤◌, suc, zero, Bool, true, false, List, [], ◌∷◌, ◌++◌, map, take, length, get_or, Option, Some, None, refl, sym, ap, ◌∙◌, subst, arith, append_assoc}
-use Rattle.std.specs.Prelude.{slice_get, slice_index_or, IsTrue, filter, ◌==◌, ◌||◌, is_some, if◌then◌else◌}
+use Rattle.std.proofs.Common.{◌≡◌, ℕ, ◌+◌, ◌<◌, suc, zero, false, List, [], ◌∷◌, ◌++◌, map, take, length, get_or, refl, sym, ap, ◌∙◌, subst, arith, append_assoc}
+use Rattle.std.specs.Prelude.{slice_index_or, ◌==◌}
 use Rattle.std.specs.List.{AllByRecursion, list_any}
 use Rattle.std.proofs.lemmas.List.{take_more}
 use Rattle.std.proofs.lemmas.Bool.Decides.{nat_tests}
 use Rattle.frp_base.specs.declared.name.Name.{Name}
 use Rattle.frp_graph.specs.declared.trace.Fact.{Fact}
-use Rattle.frp_graph.specs.declared.trace.Moment.{Moment}
 use Rattle.frp_graph.specs.declared.trace.Prog.{Prog}
 use Rattle.frp_graph.specs.declared.history.Key.{Key}
 use Rattle.frp_graph.specs.declared.history.Delivered.{Delivered}
 use Rattle.frp_graph.specs.declared.history.Cmd.{Cmd}
 use Rattle.frp_graph.specs.declared.history.Cmd.TheVariants.{Send, Join, Leave}
-use Rattle.frp_graph.specs.declared.history.Reply.TheVariants.{Accepted, Joined, Left}
+use Rattle.frp_graph.specs.declared.history.Reply.TheVariants.{Joined, Left}
 use Rattle.frp_graph.specs.declared.history.Entry.{Entry}
-use Rattle.frp_graph.specs.Trace.{live, node_in}
+use Rattle.frp_graph.specs.Trace.{live}
 use Rattle.frp_graph.specs.History.{entry_at}
 use Rattle.frp_graph.specs.Legal.{is_leave, IsHeld, AreReplies}
-use Rattle.frp_graph.specs.Sessions.{calls, calls_of, keys_of, IsSession}
+use Rattle.frp_graph.specs.Sessions.{calls_of, IsSession}
 use Rattle.frp_run.specs.Core.{program, IsCore, Entered, HasLeft}
 use Rattle.frp_run.specs.Runs.{sent_entry, HasSent}
 use Rattle.frp_run.specs.declared.machine.Core.{Core}

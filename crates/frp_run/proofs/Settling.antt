@@ -6,12 +6,12 @@ use Rattle.std.proofs.lemmas.Grind.{common_steps}
 use Rattle.std.proofs.lemmas.List.{take_more}
 use Rattle.frp_base.specs.declared.name.Name.{Name}
 use Rattle.frp_base.specs.declared.val.Val.{Val}
-use Rattle.frp_base.specs.Name.{declared_name, item_of}
+use Rattle.frp_base.specs.Name.{item_of}
 use Rattle.frp_graph.specs.declared.trace.Node.{Node}
 use Rattle.frp_graph.specs.declared.trace.Fact.{Fact}
 use Rattle.frp_graph.specs.declared.trace.Prog.{Prog}
 use Rattle.frp_graph.specs.declared.shape.Shape.{Shape}
-use Rattle.frp_graph.specs.declared.shape.Shape.TheVariants.{Sink, Never, Constant, Map, Filter, Merge, Snapshot, Split, Updates, Value, Loop, Hold, Mapc, Apply, Switchs, Switchc, Execute}
+use Rattle.frp_graph.specs.declared.shape.Shape.TheVariants.{Sink, Map, Hold}
 use Rattle.frp_graph.specs.Equations.{row}
 use Rattle.frp_run.specs.Small.{IsEarlier, IsSmall, AreSmallFrom}
 use Rattle.frp_run.specs.Engine.{sends_at, occ_at, sees, AreSettled, facts_of}

@@ -1,5 +1,5 @@
 -- The times of a history's sends: they rise, and each is of one number, below the next place.
-use Rattle.std.proofs.Common.{◌≡◌, ℕ, ◌+◌, ◌<◌, ◌≤◌, Bool, true, false, cond, List, [], ◌∷◌, ◌++◌, map, length, refl, sym, ap, ◌∙◌, subst, arith, append_assoc}
+use Rattle.std.proofs.Common.{◌≡◌, ℕ, ◌+◌, ◌<◌, ◌≤◌, Bool, true, false, cond, List, [], ◌∷◌, ◌++◌, map, length, refl, sym, ap, ◌∙◌, arith, append_assoc}
 use Rattle.std.specs.Prelude.{filter, ◌==◌}
 use Rattle.std.specs.List.{AllByRecursion}
 use Rattle.std.specs.List.Sorted.{IsStrictlySortedBy}
@@ -11,13 +11,13 @@ use Rattle.std.proofs.lemmas.Bool.Decides.{nat_tests}
 use Rattle.frp_base.specs.declared.time.Time.{Time}
 use Rattle.frp_base.specs.Time.{time_cmp, time_eq}
 use Rattle.frp_graph.specs.declared.history.Cmd.{Cmd}
-use Rattle.frp_graph.specs.declared.history.Cmd.TheVariants.{Send, Join, Leave}
+use Rattle.frp_graph.specs.declared.history.Cmd.TheVariants.{Send}
 use Rattle.frp_graph.specs.declared.history.Reply.{Reply}
-use Rattle.frp_graph.specs.declared.history.Reply.TheVariants.{Accepted, Joined, Left}
+use Rattle.frp_graph.specs.declared.history.Reply.TheVariants.{Accepted}
 use Rattle.frp_graph.specs.declared.history.Entry.{Entry}
 use Rattle.frp_graph.specs.declared.trace.Moment.{Moment}
 use Rattle.frp_graph.specs.Equations.{Sent}
-use Rattle.frp_graph.specs.History.{send_of, sends_from, sends_of}
+use Rattle.frp_graph.specs.History.{send_of, sends_from}
 use Rattle.frp_graph.specs.Moments.{build}
 use Rattle.frp_graph.specs.Trace.{moments_before}
 use Rattle.frp_graph.specs.Legal.{is_of, moments_of}

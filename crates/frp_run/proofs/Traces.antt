@@ -1,6 +1,6 @@
 -- A trace whose times are those of a history is one of the program.
-use Rattle.std.proofs.Common.{◌≡◌, ℕ, ◌+◌, ◌<◌, ◌≤◌, suc, zero, Bool, true, false, cond, List, [], ◌∷◌, ◌++◌, map, length, Option, Some, None, refl, sym, ap, ◌∙◌, subst, arith, append_assoc}
-use Rattle.std.specs.Prelude.{is_some, filter, nat_lt, not, ◌||◌, ◌&&◌, if◌then◌else◌}
+use Rattle.std.proofs.Common.{◌≡◌, ℕ, ◌+◌, Bool, true, false, cond, List, [], ◌∷◌, ◌++◌, map, Option, Some, None, refl, sym, ap, ◌∙◌, subst, arith, append_assoc}
+use Rattle.std.specs.Prelude.{is_some, filter, nat_lt, ◌||◌, ◌&&◌, if◌then◌else◌}
 use Rattle.std.specs.List.{AllByRecursion, list_any}
 use Rattle.std.specs.List.Sorted.{IsStrictlySortedBy}
 use Rattle.std.proofs.lemmas.Bool.Decides.{nat_tests}
@@ -12,10 +12,10 @@ use Rattle.frp_graph.specs.declared.trace.Node.{Node}
 use Rattle.frp_graph.specs.declared.trace.Moment.{Moment}
 use Rattle.frp_graph.specs.declared.trace.Prog.{Prog}
 use Rattle.frp_graph.specs.declared.shape.Shape.{Shape}
-use Rattle.frp_graph.specs.declared.shape.Shape.TheVariants.{Sink, Never, Constant, Map, Filter, Merge, Snapshot, Split, Updates, Value, Loop, Hold, Mapc, Apply, Switchs, Switchc, Execute}
+use Rattle.frp_graph.specs.declared.shape.Shape.TheVariants.{Sink, Map, Hold}
 use Rattle.frp_graph.specs.declared.history.Entry.{Entry}
 use Rattle.frp_graph.specs.Trace.{live, moment_at, sight_of, Sight}
-use Rattle.frp_graph.specs.Equations.{Sent, sent_in, row, MeetsEquation}
+use Rattle.frp_graph.specs.Equations.{Sent, sent_in, row}
 use Rattle.frp_graph.specs.Moments.{build, items_to_split, splits_at, live_at, is_child_due, is_due, IsMoment, IsTrace, AtEach}
 use Rattle.frp_graph.specs.History.{sends_of}
 use Rattle.frp_run.specs.Small.{IsSmall, AreSmallFrom}

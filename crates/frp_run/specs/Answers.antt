@@ -1,5 +1,6 @@
 -- What the program answers: a status, and what it writes.
-use Rattle.std.specs.Prelude.{◌≡◌, ◌<◌, ◌^◌, ℕ, List, [], ◌∷◌, Option, Some, None, codes, length, ⊤}
+use Rattle.std.specs.Prelude.{◌≡◌, ◌<◌, ◌^◌, ◌==◌, ℕ, Bool, List, [], ◌∷◌, Option, Some, None, codes, length, ⊤}
+use Rattle.std.specs.List.{list_any}
 use Rattle.frp_io.specs.Outside.{Rose}
 use Rattle.frp_graph.specs.declared.trace.Moment.{Moment}
 use Rattle.frp_graph.specs.declared.history.Entry.{Entry}
@@ -68,6 +69,10 @@ status_of (a.Refused refusal) = refusal_status refusal
 abbrev pub text_of : Answer → List ℕ
 text_of (a.Report text) = text
 text_of (a.Refused refusal) = refusal_line refusal
+
+-- the statuses that there are: 6 is not among them, since no build can fail yet
+abbrev pub is_status : ℕ → Bool
+is_status status = list_any (λ k. k == status) (0 ∷ 1 ∷ 2 ∷ 3 ∷ 4 ∷ 5 ∷ 7 ∷ [])
 
 -- the cause of a refusal: of the words, of what the source was to tell before and tells now, and of its faults
 abbrev pub HasReason : List (List ℕ) → Option (List ℕ) → Option (List ℕ) → ℕ → ℕ → Refusal → Type 0

@@ -1,5 +1,5 @@
 -- What the plain engine makes of a moment: an occurrence or none for each node, in the order of the nodes.
-use Rattle.std.specs.Prelude.{◌≡◌, ℕ, Bool, List, [], ◌∷◌, Option, Some, None, option_and_then, slice_get, ⊤}
+use Rattle.std.specs.Prelude.{◌≡◌, ℕ, List, [], ◌∷◌, Option, Some, None, option_and_then, slice_get, ⊤}
 use Rattle.frp_base.specs.declared.name.Name.{Name}
 use Rattle.frp_base.specs.declared.val.Val.{Val}
 use Rattle.frp_base.specs.Name.{item_of}

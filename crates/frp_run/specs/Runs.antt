@@ -1,5 +1,5 @@
 -- What the run of a file leaves: a core that has a session of it.
-use Rattle.std.specs.Prelude.{◌≡◌, ℕ, List, [], ◌++◌, map}
+use Rattle.std.specs.Prelude.{◌≡◌, List, ◌++◌, map}
 use Rattle.frp_graph.specs.declared.trace.Fact.{Fact}
 use Rattle.frp_graph.specs.declared.history.Cmd.TheVariants.{Send}
 use Rattle.frp_graph.specs.declared.history.Reply.TheVariants.{Accepted}

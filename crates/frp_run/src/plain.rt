@@ -1,8 +1,8 @@
 //! The program on one thread.
 
-ghost use Rattle.std.specs.Prelude.{◌≡◌, ◌<◌, ◌^◌, ℕ, List, length, map, string_bytes, ◌⊎◌};
+ghost use Rattle.std.specs.Prelude.{◌≡◌, ◌<◌, ◌^◌, ℕ, List, length, map, string_bytes, IsTrue, ◌⊎◌};
 ghost use Rattle.frp_io.specs.Outside.{Rose, Gave};
-ghost use Rattle.frp_run.specs.Answers.{IsReplay, IsReportOf, IsNoFile, IfRead, IfTold, IsLineOf};
+ghost use Rattle.frp_run.specs.Answers.{IsReplay, IsReportOf, IsNoFile, IfRead, IfTold, IsLineOf, is_status};
 
 use crate::answer::answer_to;
 use crate::outside::write_all;
@@ -39,6 +39,7 @@ pub fn frp_plain<I: Source, O: Sink>(
     ensures read { result ≡ 3 → Rose (I.faults source.old) (I.faults source.new) }
     ensures write { result ≡ 4 → Rose (O.faults sink.old) (O.faults sink.new) }
     ensures size { result ≡ 7 → IfTold (I.rest source.old) (λ bytes. 2 ^ 20 < length bytes) }
+    ensures status { IsTrue (is_status result) }
     ensures line { (line : List ℕ) → IsLineOf result line → Gave (O.held sink.old) (O.held sink.new) line }
 {
     let answer = answer_to(alloc, words, source);

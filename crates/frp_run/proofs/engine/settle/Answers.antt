@@ -1,4 +1,4 @@
-use Rattle.std.proofs.Common.{length, sym, ap, ◌∙◌}
+use Rattle.std.proofs.Common.{sym}
 use Rattle.std.specs.Option.{option_copied}
 use Rattle.frp_run.specs.Engine.{program_of}
 use Rattle.frp_run.proofs.Settling.{settled_length}

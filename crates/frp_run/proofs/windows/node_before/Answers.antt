@@ -1,7 +1,5 @@
-use Rattle.std.proofs.Common.{◌≡◌, ◌+◌, true, false, drop, Some, None, sym, ap, ◌∙◌, refl, ◌∷◌, []}
-use Rattle.std.specs.Ordering.{is_lt}
-use Rattle.frp_base.specs.Time.{time_cmp}
-use Rattle.frp_graph.specs.Trace.{node_in, live, moments_before}
+use Rattle.std.proofs.Common.{◌≡◌, Some, None, sym, ap, ◌∙◌}
+use Rattle.frp_graph.specs.Trace.{node_in}
 use Rattle.frp_run.proofs.Lookups.{node_found, node_missed, moment_missed}
 use Rattle.frp_run.proofs.windows.node_before.Goals as goal
 use Rattle.frp_run.proofs.windows.node_before.Goals.{then-lt+in_default, else-lt}

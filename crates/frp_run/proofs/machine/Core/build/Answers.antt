@@ -1,6 +1,5 @@
-use Rattle.std.proofs.Common.{◌≡◌, ◌∷◌, [], ◌++◌, None, ap, ◌∙◌}
+use Rattle.std.proofs.Common.{◌≡◌, ◌∷◌, [], ◌++◌, None, ◌∙◌}
 use Rattle.std.proofs.Math.Path.{transport}
-use Rattle.frp_graph.specs.declared.trace.Moment.{Moment}
 use Rattle.frp_run.specs.Engine.{AreFacts, program_of}
 use Rattle.frp_run.proofs.Cores.{build_core}
 use Rattle.frp_run.proofs.machine.Core.build.Goals as goal

@@ -1,4 +1,4 @@
-use Rattle.std.proofs.Common.{◌≡◌, ◌+◌, length, ap, ◌∙◌}
+use Rattle.std.proofs.Common.{◌≡◌, ◌+◌, length, ◌∙◌}
 use Rattle.frp_graph.specs.Windows.{window}
 use Rattle.frp_run.proofs.Cores.{on_ok, leave_entered}
 use Rattle.frp_run.proofs.machine.Core.leave.Goals as goal

@@ -1,0 +1,145 @@
+use super::*;
+use std::alloc::Global;
+use std::test::Fail;
+
+/// A text of these characters.
+fn text(alloc: Global, chars: &str) -> Result<Text, Memory> {
+    let mut text = Text::new(alloc);
+    text.push_str(chars)?;
+    Ok(text)
+}
+
+/// The whole numbers 1 and 2.
+fn one_and_two(alloc: Global) -> Result<Seq<Val>, Memory> {
+    let mut values = Seq::new(alloc);
+    values.add(Val::Int(1))?;
+    values.add(Val::Int(2))?;
+    Ok(values)
+}
+
+/// The one whole number 7.
+fn seven(alloc: Global) -> Result<Seq<Val>, Memory> {
+    let mut values = Seq::new(alloc);
+    values.add(Val::Int(7))?;
+    Ok(values)
+}
+
+/// The pair of the whole numbers 1 and 2.
+fn pair(alloc: Global) -> Result<Val, Memory> {
+    Ok(Val::Pair(
+        Boxed::new(alloc, Val::Int(1))?,
+        Boxed::new(alloc, Val::Int(2))?,
+    ))
+}
+
+#[test]
+fn containers(rt: HostRuntime) -> Result<(), Fail> {
+    let alloc = rt.alloc();
+    let mut numbers: Seq<u64> = Seq::new(alloc);
+    assert_eq!(rt; numbers.pop(), None);
+    numbers.push(5)?;
+    numbers.add(7)?;
+    numbers.add(9)?;
+    assert_eq!(rt; numbers.as_slice(), [5, 7, 9].as_slice());
+    assert_eq!(rt; numbers.pop(), Some(9));
+    let mut same: Seq<u64> = Seq::new(numbers.allocator());
+    same.add(5)?;
+    assert!(rt; same != numbers);
+    same.add(7)?;
+    assert!(rt; same == numbers);
+    let items = numbers.into_vec();
+    assert_eq!(rt; items.as_slice(), [5, 7].as_slice());
+    assert!(rt; Seq::of(items) == same);
+
+    let boxed: Boxed<u64> = Boxed::new(alloc, 8)?;
+    assert_eq!(rt; *boxed.get(), 8);
+    assert!(rt; boxed == Boxed::new(alloc, 8)?);
+    assert!(rt; boxed != Boxed::new(alloc, 9)?);
+    assert_eq!(rt; boxed.into_inner(), 8);
+
+    assert!(rt; Place(1) < Place(2) && Place(2) == Place(2) && Place(2) != Place(3));
+    assert_eq!(rt; Memory.to_string(alloc)?.as_str(), "out of memory");
+    Ok(())
+}
+
+#[test]
+fn texts(rt: HostRuntime) -> Result<(), Fail> {
+    let alloc = rt.alloc();
+    let mut till = Text::new(alloc);
+    assert_eq!(rt; till.as_str(), "");
+    till.push_str("til")?;
+    till.push('l')?;
+    till.push('é')?;
+    assert_eq!(rt; till.as_str(), "tillé");
+    let copy = till.copy()?;
+    assert!(rt; copy == till);
+    till.push_str("s")?;
+    assert!(rt; copy != till);
+    assert_eq!(rt; copy.as_str(), "tillé");
+    assert_eq!(rt; Text::of(String::from_str(alloc, "shop")?).as_str(), "shop");
+    Ok(())
+}
+
+#[test]
+fn times(rt: HostRuntime) -> Result<(), Fail> {
+    let alloc = rt.alloc();
+    let build = Time::top(alloc, 0);
+    let three = Time::top(alloc, 3);
+    let four = Time::top(alloc, 4);
+    assert!(rt; build < three && three < four && build < four);
+    assert!(rt; !(three < three) && !(four < three));
+    let copy = three.copy()?;
+    assert!(rt; copy == three && copy.is(&three) && !copy.is(&four));
+    let mut out = Text::new(alloc);
+    copy.show(&mut out)?;
+    assert_eq!(rt; out.as_str(), "[3]");
+    Ok(())
+}
+
+#[test]
+fn names(rt: HostRuntime) -> Result<(), Fail> {
+    let alloc = rt.alloc();
+    let one = Name::declared(alloc, 1)?;
+    let two = Name::declared(alloc, 2)?;
+    assert_eq!(rt; two.item(), 2);
+    assert!(rt; one < two && !(two < one) && !(two < two));
+    let copy = two.copy()?;
+    assert!(rt; copy == two && copy.is(&two) && !copy.is(&one));
+    let mut out = Text::new(alloc);
+    copy.show(&mut out)?;
+    assert_eq!(rt; out.as_str(), "#2");
+
+    let stage = Stage {
+        time: Time::top(alloc, 3),
+        item: 7,
+    };
+    let same = stage.copy()?;
+    assert_eq!(rt; same.item, 7);
+    assert!(rt; same.time.is(&Time::top(alloc, 3)) && same == stage);
+    Ok(())
+}
+
+#[test]
+fn values(rt: HostRuntime) -> Result<(), Fail> {
+    let alloc = rt.alloc();
+    let cases = [
+        (Val::Int(-3), "-3"),
+        (Val::Bool(true), "true"),
+        (Val::Bool(false), "false"),
+        (Val::Text(text(alloc, "a\"b\\c")?), "\"a\\\"b\\\\c\""),
+        (pair(alloc)?, "(pair 1 2)"),
+        (Val::List(one_and_two(alloc)?), "(list 1 2)"),
+        (Val::List(Seq::new(alloc)), "(list)"),
+        (Val::Stream(Name::declared(alloc, 1)?), "(stream #1)"),
+        (Val::Cell(Name::declared(alloc, 2)?), "(cell #2)"),
+        (Val::Fun(0, seven(alloc)?), "(fun 0 7)"),
+    ];
+    for (value, want) in &cases {
+        let copy = value.copy(alloc)?;
+        assert!(rt; copy == *value, "at {want}");
+        let mut out = Text::new(alloc);
+        copy.show(alloc, &mut out)?;
+        assert_eq!(rt; out.as_str(), *want);
+    }
+    Ok(())
+}
