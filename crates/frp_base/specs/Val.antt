@@ -12,7 +12,7 @@ abbrev pub spaced : List (List ℕ) → List ℕ
 spaced [] = []
 spaced (t ∷ ts) = 32 ∷ t ++ spaced ts
 
--- the backslash that stands before a quote and before a backslash
+-- the backslash that stands before a quote and before a backslash, and before no other byte
 abbrev pub mark : ℕ → List ℕ
 mark b = if b == 34 || b == 92 then 92 ∷ [] else []
 

@@ -29,7 +29,7 @@ OneOccurrence = (prog : Prog) (sends : List Sent) (trace : List Moment) → IsTr
 abbrev pub BeforeIsStrict : Type 0
 BeforeIsStrict = (past : List Moment) (m k : Moment) (c : Name) → m.born ≡ k.born → pre past m c ≡ pre past k c
 
--- A trace with a moment more is one whose earlier moments are as they were.
+-- Whether a moment is one that the program has depends on it and on those before, and on no later one.
 abbrev pub EarlierMomentsStay : Type 0
 EarlierMomentsStay = (prog : Prog) (sends : List Sent) (trace : List Moment) (m : Moment)
     → AtEach (IsMoment prog sends) [] (trace ++ m ∷ []) ↔ (AtEach (IsMoment prog sends) [] trace × IsMoment prog sends trace m)

@@ -35,7 +35,7 @@ abbrev pub between : Time → Time → Name → List Moment → List Delivered
 between from to n [] = []
 between from to n (m ∷ ms) = item_between from to n m ++ between from to n ms
 
--- the value of a cell at the moments before a time, as an item of that time
+-- the value of a cell after the moments before a time, as an item of that time
 abbrev pub first_item : List Moment → Name → Time → List Delivered
 first_item trace n t =
     if is_cell (node_in (live (moments_before t trace)) n) then delivered t (value_after (moments_before t trace) n) else []

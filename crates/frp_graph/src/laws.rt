@@ -5,12 +5,13 @@ pub fn one_occurrence()
     ensures { OneOccurrence }
 {}
 
-/// A cell's value before a moment sees only what came strictly before.
+/// A cell's value before a moment depends on no occurrence or step at it.
 pub fn before_is_strict()
     ensures { BeforeIsStrict }
 {}
 
-/// A moment that is added to a trace leaves the earlier ones as they were.
+/// Whether a moment is one that the program has depends on it and on those before: one that is added to a trace leaves
+/// the earlier ones as they were.
 pub fn earlier_moments_stay()
     ensures { EarlierMomentsStay }
 {}

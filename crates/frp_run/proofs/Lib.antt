@@ -15,3 +15,4 @@ pub mod FileSpelled
 pub mod FileWords
 pub mod Reading
 pub mod Words
+pub mod Complete

@@ -1,7 +1,7 @@
 -- What the program answers: a status, and what it writes.
-use Rattle.std.specs.Prelude.{◌≡◌, ◌<◌, ◌^◌, ◌==◌, ℕ, Bool, List, [], ◌∷◌, Option, Some, None, codes, length, ⊤}
+use Rattle.std.specs.Prelude.{◌≡◌, ◌<◌, ◌≤◌, ◌^◌, take, ◌==◌, ℕ, Bool, List, [], ◌∷◌, Option, Some, None, codes, length, ⊤}
 use Rattle.std.specs.List.{list_any}
-use Rattle.frp_io.specs.Outside.{Rose}
+use Rattle.frp_io.specs.Outside.{Rose, Gave}
 use Rattle.frp_graph.specs.declared.trace.Moment.{Moment}
 use Rattle.frp_graph.specs.declared.history.Entry.{Entry}
 use Rattle.frp_graph.specs.Legal.{IsLegal}
@@ -15,7 +15,8 @@ use Rattle.frp_run.specs.declared.answer.Refusal.TheVariants as r
 use Rattle.frp_run.specs.declared.answer.Answer.{Answer}
 use Rattle.frp_run.specs.declared.answer.Answer.TheVariants as a
 
--- The text is the report of a session of a file of these bytes, and its history and trace are legal together.
+-- The text is the report of a session of a lawful file of which these bytes are a text, and its history and trace are
+-- legal together.
 pub record IsReportOf (bytes text : List ℕ) : Type 0 where
   pub file : File
   pub entries : List Entry
@@ -70,11 +71,11 @@ abbrev pub text_of : Answer → List ℕ
 text_of (a.Report text) = text
 text_of (a.Refused refusal) = refusal_line refusal
 
--- the statuses that there are: 6 is not among them, since no build can fail yet
+-- the statuses that there are: 6 is kept for a build that fails, which none can yet
 abbrev pub is_status : ℕ → Bool
 is_status status = list_any (λ k. k == status) (0 ∷ 1 ∷ 2 ∷ 3 ∷ 4 ∷ 5 ∷ 7 ∷ [])
 
--- the cause of a refusal: of the words, of what the source was to tell before and tells now, and of its faults
+-- the cause of a refusal: of the words, of what the source had left before and has left now, and of its counts of faults
 abbrev pub HasReason : List (List ℕ) → Option (List ℕ) → Option (List ℕ) → ℕ → ℕ → Refusal → Type 0
 HasReason words before after faults now r.NoFile = (IsReplay words) × (IfRead before after IsNoFile)
 HasReason words before after faults now r.Usage = IsReplay words → ⊥
@@ -85,3 +86,23 @@ HasReason words before after faults now r.Size = (IsReplay words) × (IfTold bef
 abbrev pub IsAnswer : List (List ℕ) → Option (List ℕ) → Option (List ℕ) → ℕ → ℕ → Answer → Type 0
 IsAnswer words before after faults now (a.Report text) = (IsReplay words) × (IfRead before after (λ bytes. IsReportOf bytes text))
 IsAnswer words before after faults now (a.Refused refusal) = HasReason words before after faults now refusal
+
+-- The source has a text of a lawful file left, within the size.
+pub record HasFile (before : Option (List ℕ)) : Type 0 where
+  pub bytes : List ℕ
+  pub file : File
+  pub told : before ≡ Some bytes
+  pub is_file : IsFileOf bytes file
+  pub is_small : length bytes ≤ 2 ^ 20
+
+-- what the sink holds more is the first of this text
+pub record GavePart (before after : Option (List ℕ)) (text : List ℕ) : Type 0 where
+  pub count : ℕ
+  pub within : count ≤ length text
+  pub given : Gave before after (take count text)
+
+-- what the sink holds more is the first of what was to be written
+pub record AnswersPart (words : List (List ℕ)) (rest left : Option (List ℕ)) (faults now : ℕ) (before after : Option (List ℕ)) : Type 0 where
+  pub answer : Answer
+  pub is_answer : IsAnswer words rest left faults now answer
+  pub part : GavePart before after (text_of answer)

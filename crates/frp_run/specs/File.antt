@@ -74,7 +74,7 @@ abbrev pub begins_lower : List ℕ → Bool
 begins_lower [] = false
 begins_lower (b ∷ bs) = is_lower b
 
--- 1 to 32 letters, digits and underscores, a lower-case letter first; `true` and `false` are literals
+-- 1 to 32 lower-case letters, digits and underscores, a letter first; `true` and `false` are literals
 abbrev pub is_name : List ℕ → Bool
 is_name t = begins_lower t && list_all is_in_name t && nat_le (length t) 32 && not (text_eq t (codes "true")) && not (text_eq t (codes "false"))
 

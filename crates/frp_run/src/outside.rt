@@ -1,8 +1,8 @@
 //! Reading all of a source, and writing a whole text.
 
-ghost use Rattle.std.specs.Prelude.{◌≡◌, ◌<◌, ◌≤◌, ◌+◌, length, take, drop, IfOk, OnOk, Err};
+ghost use Rattle.std.specs.Prelude.{◌≡◌, ◌<◌, ◌≤◌, ◌+◌, length, take, drop, IfOk, OnOk, OnErr, Err};
 ghost use Rattle.frp_io.specs.Outside.{HasCause, Rose, Took, Ended, Gave};
-ghost use Rattle.frp_run.specs.Answers.{IfTold};
+ghost use Rattle.frp_run.specs.Answers.{IfTold, GavePart};
 
 use frp_io::{Failed, Sink, Source};
 use std::alloc::Global;
@@ -49,6 +49,7 @@ pub fn read_all<S: Source>(
 #[tactic(auto, using(frp_io::proofs::Bytes::gave_none, frp_io::proofs::Bytes::gave_part))]
 pub fn write_all<K: Sink>(sink: &mut K, bytes: &[u8]) -> Result<(), Failed>
     ensures bytes { OnOk result (Gave (K.held sink.old) (K.held sink.new) bytes.now) }
+    ensures part { OnErr result (GavePart (K.held sink.old) (K.held sink.new) bytes.now) }
     ensures cause { HasCause (K.faults sink.old) (K.faults sink.new) result }
 {
     let mut done = 0;
@@ -64,6 +65,7 @@ fn write_part<K: Sink>(sink: &mut K, bytes: &[u8], done: usize) -> Result<usize,
     ensures some { IfOk result (λ n. 0 < n) }
     ensures bound { IfOk result (λ n. done + n ≤ length bytes.now) }
     ensures bytes { IfOk result (λ n. Gave (K.held sink.old) (K.held sink.new) (take n (drop done bytes.now))) }
+    ensures err { OnErr result (K.held sink.new ≡ K.held sink.old) }
     ensures cause { HasCause (K.faults sink.old) (K.faults sink.new) result }
 {
     sink.write(&bytes[done..])
