@@ -1,2 +1,4 @@
 pub mod NameLemmas
+pub mod TyLemmas
+pub mod ValEqLemmas
 pub mod ValLemmas

@@ -1,4 +1,5 @@
 pub mod formers
 pub mod Time
 pub mod Name
+pub mod Ty
 pub mod Val

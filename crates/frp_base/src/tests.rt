@@ -24,6 +24,13 @@ fn seven(alloc: Global) -> Result<Seq<Val>, Memory> {
     Ok(values)
 }
 
+/// The type of functions from pairs of whole numbers and truth values to lists of texts.
+fn function(alloc: Global) -> Result<Ty, Memory> {
+    let pair = Ty::Pair(Boxed::new(alloc, Ty::Int)?, Boxed::new(alloc, Ty::Bool)?);
+    let list = Ty::List(Boxed::new(alloc, Ty::Text)?);
+    Ok(Ty::Fun(Boxed::new(alloc, pair)?, Boxed::new(alloc, list)?))
+}
+
 /// The pair of the whole numbers 1 and 2.
 fn pair(alloc: Global) -> Result<Val, Memory> {
     Ok(Val::Pair(
@@ -120,6 +127,30 @@ fn names(rt: HostRuntime) -> Result<(), Fail> {
 }
 
 #[test]
+fn types(rt: HostRuntime) -> Result<(), Fail> {
+    let alloc = rt.alloc();
+    let cases = [
+        (Ty::Int, "Int"),
+        (Ty::Bool, "Bool"),
+        (Ty::Text, "Text"),
+        (Ty::Stream(Boxed::new(alloc, Ty::Int)?), "(Stream Int)"),
+        (Ty::Cell(Boxed::new(alloc, Ty::Int)?), "(Cell Int)"),
+        (function(alloc)?, "(Fun (Pair Int Bool) (List Text))"),
+    ];
+    for (i, (ty, want)) in cases.iter().enumerate() {
+        let copy = ty.copy(alloc)?;
+        assert!(rt; copy == *ty, "at {want}");
+        for (j, (other, _)) in cases.iter().enumerate() {
+            assert!(rt; copy.is(other) == (i == j), "at {want}");
+        }
+        let mut out = Text::new(alloc);
+        copy.show(alloc, &mut out)?;
+        assert_eq!(rt; out.as_str(), *want);
+    }
+    Ok(())
+}
+
+#[test]
 fn values(rt: HostRuntime) -> Result<(), Fail> {
     let alloc = rt.alloc();
     let cases = [
@@ -134,9 +165,12 @@ fn values(rt: HostRuntime) -> Result<(), Fail> {
         (Val::Cell(Name::declared(alloc, 2)?), "(cell #2)"),
         (Val::Fun(0, seven(alloc)?), "(fun 0 7)"),
     ];
-    for (value, want) in &cases {
+    for (i, (value, want)) in cases.iter().enumerate() {
         let copy = value.copy(alloc)?;
         assert!(rt; copy == *value, "at {want}");
+        for (j, (other, _)) in cases.iter().enumerate() {
+            assert!(rt; copy.is(other) == (i == j), "at {want}");
+        }
         let mut out = Text::new(alloc);
         copy.show(alloc, &mut out)?;
         assert_eq!(rt; out.as_str(), *want);

@@ -1,5 +1,5 @@
-ghost use Rattle.std.specs.Prelude.{◌≡◌, [], ◌∷◌, ◌++◌, map, encode_utf8, IfOk, OnOk};
-ghost use Rattle.frp_base.specs.Val.{val_text, spaced, mark, escaped};
+ghost use Rattle.std.specs.Prelude.{◌≡◌, ◌↔◌, [], ◌∷◌, ◌++◌, IsTrue, map, encode_utf8, IfOk, OnOk};
+ghost use Rattle.frp_base.specs.Val.{val_eq, val_text, spaced, mark, escaped};
 
 use crate::boxed::Boxed;
 use crate::memory::Memory;
@@ -44,6 +44,32 @@ impl Val {
         }
     }
 
+    /// Whether two values are one. It takes no memory.
+    pub fn is(&self, other: &Val) -> bool
+        ensures same { IsTrue result ↔ (self.now ≡ other.now) }
+        ensures test { result ≡ val_eq self.now other.now }
+    {
+        self.same(other)
+    }
+
+    #[cycle(same)]
+    fn same(&self, other: &Val) -> bool
+        ensures { IsTrue result ↔ (self.now ≡ other.now) }
+    {
+        match self {
+            Val::Int(a) => matches!(other, Val::Int(b) if a == b),
+            Val::Bool(a) => matches!(other, Val::Bool(b) if a == b),
+            Val::Text(a) => matches!(other, Val::Text(b) if a == b),
+            Val::Pair(a, b) =>
+                matches!(other, Val::Pair(c, d) if a.get().same(c.get()) && b.get().same(d.get())),
+            Val::List(a) => matches!(other, Val::List(b) if all_are(a.as_slice(), b.as_slice())),
+            Val::Stream(a) => matches!(other, Val::Stream(b) if a.is(b)),
+            Val::Cell(a) => matches!(other, Val::Cell(b) if a.is(b)),
+            Val::Fun(f, a) =>
+                matches!(other, Val::Fun(g, b) if f == g && all_are(a.as_slice(), b.as_slice())),
+        }
+    }
+
     /// Appends the text of the value, as `-3`, `true`, `"a\"b"`, `(pair 1 2)`, `(list 1 2)`, `(stream #1)`, `(cell #2)`
     /// and `(fun 0 7)`.
     #[cycle(show)]
@@ -84,6 +110,22 @@ impl Val {
             }
         }
     }
+}
+
+/// Whether two lists of values are one.
+#[cycle(same)]
+fn all_are(values: &[Val], others: &[Val]) -> bool
+    ensures { IsTrue result ↔ (values.now ≡ others.now) }
+{
+    if values.len() != others.len() {
+        return false;
+    }
+    for (i, value) in values.iter().enumerate() {
+        if !value.same(&others[i]) {
+            return false;
+        }
+    }
+    true
 }
 
 /// Copies of all the values, in order.

@@ -1,0 +1,6 @@
+use Rattle.std.specs.Bool.{one_answer}
+use Rattle.frp_base.proofs.ValEqLemmas.{val_decides}
+use Rattle.frp_base.proofs.val.Val.is.Goals as goal
+
+pub returns-clause-test : goal.returns-clause-test
+returns-clause-test c = one_answer _ _ c.same.ensures (val_decides c.args.self.now c.args.other.now)
