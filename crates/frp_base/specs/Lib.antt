@@ -3,3 +3,4 @@ pub mod Time
 pub mod Name
 pub mod Ty
 pub mod Val
+pub mod Laws

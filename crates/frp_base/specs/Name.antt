@@ -1,5 +1,5 @@
 -- Names of nodes: lists of stages, each a time and the number of an item, in lexicographic order with a prefix first.
-use Rattle.std.specs.Prelude.{ℕ, Bool, ◌&&◌, ◌==◌, List, [], ◌∷◌, ◌++◌}
+use Rattle.std.specs.Prelude.{ℕ, Bool, ◌&&◌, ◌==◌, List, [], ◌∷◌, ◌++◌, length, take, Option, Some, None}
 use Rattle.std.specs.Fmt.{decimal}
 use Rattle.std.specs.Ordering.{ordering_then, nat_cmp}
 use Rattle.std.specs.declared.cmp.Ordering.{Ordering}
@@ -25,6 +25,16 @@ name_cmp = slice_cmp stage_cmp
 -- the name of item k of the file: it is born at the time of the build
 abbrev pub declared_name : ℕ → List Stage
 declared_name k = record { time = 0 ∷ []; item = k } ∷ []
+
+-- the name of the node that item k of the body of n's node makes at time t
+abbrev pub made_name : List Stage → List ℕ → ℕ → List Stage
+made_name n t k = n ++ record { time = t; item = k } ∷ []
+
+-- the name of the node that made it: the stages before the last; a declared name has none
+abbrev pub maker : List Stage → Option (List Stage)
+maker [] = None
+maker (s ∷ []) = None
+maker (s ∷ r ∷ ss) = Some (s ∷ take (length ss) (r ∷ ss))
 
 -- the number of the item, of a declared name
 abbrev pub item_of : List Stage → ℕ

@@ -21,6 +21,10 @@ parent_and_number (n ∷ []) = None
 parent_and_number (n ∷ i ∷ []) = Some (n ∷ [], i)
 parent_and_number (n ∷ m ∷ i ∷ t) = option_map (λ (p : List ℕ × ℕ). (n ∷ p.0, p.1)) (parent_and_number (m ∷ i ∷ t))
 
+-- the time whose child a time is; a time of one number has none
+abbrev pub parent : List ℕ → Option (List ℕ)
+parent t = option_map (λ (p : List ℕ × ℕ). p.0) (parent_and_number t)
+
 -- each number with a comma before it
 abbrev pub more_numbers : List ℕ → List ℕ
 more_numbers [] = []

@@ -52,7 +52,7 @@ impl Model for Name {
 }
 
 impl Name {
-    ghost use Rattle.frp_base.specs.Name.{name_eq, name_text, declared_name, item_of};
+    ghost use Rattle.frp_base.specs.Name.{name_eq, name_text, declared_name, made_name, item_of, birth, maker};
 
     /// The name of item `item` of a file, counted from 0: it is born at the time of the build.
     pub fn declared(alloc: Global, item: u64) -> Result<Name, Memory>
@@ -77,11 +77,42 @@ impl Name {
     pub fn copy(&self) -> Result<Name, Memory>
         ensures { IfOk result (λ n. n ≡ self.now) }
     {
-        let mut stages = Seq::new(self.stages.allocator());
-        for stage in self.stages.as_slice() {
-            stages.add(stage.copy()?)?;
-        }
+        let stages = copy_all(self.stages.allocator(), self.stages.as_slice())?;
         Ok(Name { stages })
+    }
+
+    /// The name of the node that item `item` of this node's body, counted from 0, makes at `time`: one stage more.
+    pub fn made(&self, time: &Time, item: u64) -> Result<Name, Memory>
+        ensures { IfOk result (λ n. n ≡ made_name self.now time.now item) }
+    {
+        let mut stages = copy_all(self.stages.allocator(), self.stages.as_slice())?;
+        stages.add(Stage {
+            time: time.copy()?,
+            item,
+        })?;
+        Ok(Name { stages })
+    }
+
+    /// When the node was born: the time of the last stage. It takes no memory.
+    pub fn birth(&self) -> &Time
+        ensures { result.now ≡ birth self.now }
+    {
+        let stages = self.stages.as_slice();
+        &stages[stages.len() - 1].time
+    }
+
+    /// The name of the node that made this one: all its stages but the last. An item of the file has none.
+    #[tactic(auto, using(crate::proofs::NameLemmas::maker_none, crate::proofs::NameLemmas::maker_taken))]
+    pub fn maker(&self) -> Result<Option<Name>, Memory>
+        ensures { IfOk result (λ r. r ≡ maker self.now) }
+    {
+        let stages = self.stages.as_slice();
+        let before = stages.len() - 1;
+        if before == 0 {
+            return Ok(None);
+        }
+        let stages = copy_all(self.stages.allocator(), &stages[..before])?;
+        Ok(Some(Name { stages }))
     }
 
     /// Whether two names are one. It takes no memory.
@@ -114,6 +145,17 @@ impl Name {
         }
         Ok(())
     }
+}
+
+/// Copies of all the stages, in order.
+fn copy_all(alloc: Global, stages: &[Stage]) -> Result<Seq<Stage>, Memory>
+    ensures { IfOk result (λ s. s ≡ stages.now) }
+{
+    let mut copies = Seq::new(alloc);
+    for stage in stages {
+        copies.add(stage.copy()?)?;
+    }
+    Ok(copies)
 }
 
 /// Whether two lists of stages are one.

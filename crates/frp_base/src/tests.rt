@@ -1,5 +1,9 @@
+ghost use Rattle.std.specs.Prelude.{◌≡◌, ◌<◌};
+
 use super::*;
 use std::alloc::Global;
+use std::marker::Brand;
+use std::sync::ledger::{Blank, Ledger};
 use std::test::Fail;
 
 /// A text of these characters.
@@ -104,6 +108,24 @@ fn times(rt: HostRuntime) -> Result<(), Fail> {
 }
 
 #[test]
+fn children(rt: HostRuntime) -> Result<(), Fail> {
+    let alloc = rt.alloc();
+    let three = Time::top(alloc, 3);
+    let first = three.child(0)?;
+    let below = first.child(1)?;
+    let second = three.child(1)?;
+    assert!(rt; three < first);
+    assert!(rt; first < below);
+    assert!(rt; below < second);
+    assert!(rt; three.parent()?.is_none());
+    assert!(rt; below.parent()? == Some(first));
+    let mut out = Text::new(alloc);
+    below.show(&mut out)?;
+    assert_eq!(rt; out.as_str(), "[3,0,1]");
+    Ok(())
+}
+
+#[test]
 fn names(rt: HostRuntime) -> Result<(), Fail> {
     let alloc = rt.alloc();
     let one = Name::declared(alloc, 1)?;
@@ -124,6 +146,42 @@ fn names(rt: HostRuntime) -> Result<(), Fail> {
     assert_eq!(rt; same.item, 7);
     assert!(rt; same.time.is(&Time::top(alloc, 3)) && same == stage);
     Ok(())
+}
+
+#[test]
+fn made_names(rt: HostRuntime) -> Result<(), Fail> {
+    let alloc = rt.alloc();
+    let two = Name::declared(alloc, 2)?;
+    let time = Time::top(alloc, 3);
+    let made = two.made(&time, 0)?;
+    assert!(rt; two < made);
+    assert!(rt; made.birth().is(&time));
+    assert!(rt; two.maker()?.is_none());
+    assert!(rt; made.maker()? == Some(two));
+    let mut out = Text::new(alloc);
+    made.made(&time, 4)?.show(&mut out)?;
+    assert_eq!(rt; out.as_str(), "#2/[3].0/[3].4");
+    Ok(())
+}
+
+/// Two steps.
+fn two_steps<L: Ledger>(blank: Blank)
+    requires name { blank.name ≡ L.name }
+    requires parts { blank.parts ≡ L.parts }
+    requires some { 0 < blank.parts }
+{
+    let mut steps = Steps::<L>::new(blank);
+    steps.tick();
+    steps.tick();
+}
+
+#[test]
+fn laws_and_steps(_rt: HostRuntime) {
+    times_are_ordered();
+    names_are_ordered();
+    children_have_parents();
+    made_names_have_makers();
+    two_steps::<Brand>(Blank::new(1));
 }
 
 #[test]

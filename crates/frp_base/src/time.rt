@@ -1,5 +1,5 @@
 ghost use Rattle.std.specs.Prelude.{◌≡◌, [], ◌∷◌, ◌++◌, IfOk, OnOk};
-ghost use Rattle.frp_base.specs.Time.{time_eq, time_text};
+ghost use Rattle.frp_base.specs.Time.{time_eq, time_text, parent};
 
 use crate::memory::Memory;
 use crate::text::Text;
@@ -43,6 +43,29 @@ impl Time {
     {
         let numbers = SmallVec::from_slice(*self.numbers.allocator(), self.numbers.as_slice())?;
         Ok(Time { numbers })
+    }
+
+    /// The time's child of number `i`: its numbers, and `i` after them.
+    pub fn child(&self, i: u64) -> Result<Time, Memory>
+        ensures { IfOk result (λ t. t ≡ self.now ++ i ∷ []) }
+    {
+        let mut numbers = SmallVec::from_slice(*self.numbers.allocator(), self.numbers.as_slice())?;
+        numbers.push(i)?;
+        Ok(Time { numbers })
+    }
+
+    /// The time whose child this one is: all its numbers but the last. The time of a transaction has none.
+    #[tactic(auto, using(crate::proofs::TimeLemmas::parent_none, crate::proofs::TimeLemmas::parent_taken))]
+    pub fn parent(&self) -> Result<Option<Time>, Memory>
+        ensures { IfOk result (λ r. r ≡ parent self.now) }
+    {
+        let numbers = self.numbers.as_slice();
+        let before = numbers.len() - 1;
+        if before == 0 {
+            return Ok(None);
+        }
+        let numbers = SmallVec::from_slice(*self.numbers.allocator(), &numbers[..before])?;
+        Ok(Some(Time { numbers }))
     }
 
     /// Whether two times are one. It takes no memory.

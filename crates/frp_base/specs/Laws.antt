@@ -1,0 +1,36 @@
+-- The laws of the order of lists, and how children and made names stand to what they were made of.
+use Rattle.std.specs.Prelude.{◌≡◌, ◌↔◌, ◌⊎◌, ℕ, ◌<◌, List, [], ◌∷◌, ◌++◌, length, Some}
+use Rattle.std.specs.declared.cmp.Ordering.{Ordering}
+use Rattle.std.specs.declared.cmp.Ordering.TheVariants.{Less, Equal, Greater}
+use Rattle.frp_base.specs.declared.name.Stage.{Stage}
+use Rattle.frp_base.specs.Time.{parent_and_number}
+use Rattle.frp_base.specs.Name.{made_name, maker, birth}
+
+-- equal exactly where the two are one
+abbrev pub EqualIsSame : {A : Type 0} → (A → A → Ordering) → Type 0
+EqualIsSame {A} cmp = (a b : A) → (cmp a b ≡ Equal) ↔ (a ≡ b)
+
+-- one is before the other exactly where the other is after the one
+abbrev pub Reverses : {A : Type 0} → (A → A → Ordering) → Type 0
+Reverses {A} cmp = (a b : A) → (cmp a b ≡ Less) ↔ (cmp b a ≡ Greater)
+
+abbrev pub IsTransitive : {A : Type 0} → (A → A → Ordering) → Type 0
+IsTransitive {A} cmp = (a b c : A) → cmp a b ≡ Less → cmp b c ≡ Less → cmp a c ≡ Less
+
+-- of two, the one is before, or they are one, or the other is before
+abbrev pub IsTotal : {A : Type 0} → (A → A → Ordering) → Type 0
+IsTotal {A} cmp = (a b : A) → (cmp a b ≡ Less) ⊎ ((a ≡ b) ⊎ (cmp b a ≡ Less))
+
+-- what begins a list, and is not all of it, is before it
+abbrev pub BeginningsFirst : {A : Type 0} → (List A → List A → Ordering) → Type 0
+BeginningsFirst {A} cmp = (xs : List A) (y : A) (ys : List A) → cmp xs (xs ++ y ∷ ys) ≡ Less
+
+-- the child of number i of the time t
+abbrev pub ChildrenHaveParents : Type 0
+ChildrenHaveParents = (t : List ℕ) (i : ℕ) → 0 < length t → parent_and_number (t ++ i ∷ []) ≡ Some (t, i)
+
+abbrev pub MadeNamesHaveMakers : Type 0
+MadeNamesHaveMakers = (n : List Stage) (t : List ℕ) (k : ℕ) → 0 < length n → maker (made_name n t k) ≡ Some n
+
+abbrev pub MadeNamesAreBorn : Type 0
+MadeNamesAreBorn = (n : List Stage) (t : List ℕ) (k : ℕ) → birth (made_name n t k) ≡ t
