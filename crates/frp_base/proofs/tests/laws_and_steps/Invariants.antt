@@ -1,4 +1,4 @@
 use Rattle.frp_base.proofs.tests.laws_and_steps.Given as goal
 
 abbrev pub ghosts-two_steps : goal.ghosts-two_steps
-ghosts-two_steps g a = record { name = a.blank.name; parts = a.blank.parts }
+ghosts-two_steps a = record { name = a.blank.name; parts = a.blank.parts }
