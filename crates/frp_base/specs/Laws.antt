@@ -1,10 +1,11 @@
 -- The laws of the order of lists, and how children and made names stand to what they were made of.
-use Rattle.std.specs.Prelude.{◌≡◌, ◌↔◌, ◌⊎◌, ℕ, ◌<◌, List, [], ◌∷◌, ◌++◌, length, Some}
+use Rattle.std.specs.Prelude.{◌≡◌, ◌↔◌, ◌⊎◌, ℕ, ◌<◌, ◌^◌, List, [], ◌∷◌, ◌++◌, length, Some, ⊤}
+use Rattle.std.specs.List.{AllByRecursion}
 use Rattle.std.specs.declared.cmp.Ordering.{Ordering}
 use Rattle.std.specs.declared.cmp.Ordering.TheVariants.{Less, Equal, Greater}
 use Rattle.frp_base.specs.declared.name.Stage.{Stage}
-use Rattle.frp_base.specs.Time.{parent_and_number}
-use Rattle.frp_base.specs.Name.{made_name, maker, birth}
+use Rattle.frp_base.specs.Time.{parent_and_number, time_text}
+use Rattle.frp_base.specs.Name.{made_name, maker, birth, name_text}
 
 -- equal exactly where the two are one
 abbrev pub EqualIsSame : {A : Type 0} → (A → A → Ordering) → Type 0
@@ -34,3 +35,23 @@ MadeNamesHaveMakers = (n : List Stage) (t : List ℕ) (k : ℕ) → 0 < length n
 
 abbrev pub MadeNamesAreBorn : Type 0
 MadeNamesAreBorn = (n : List Stage) (t : List ℕ) (k : ℕ) → birth (made_name n t k) ≡ t
+
+-- each number is one that a time holds, of 64 bits; and so are those of each stage
+abbrev pub AreHeld : List ℕ → Type 0
+AreHeld = AllByRecursion (λ n. n < 2 ^ 64)
+
+abbrev pub AreStagesHeld : List Stage → Type 0
+AreStagesHeld = AllByRecursion (λ s. AreHeld s.time × s.item < 2 ^ 64)
+
+-- times of one text are one
+abbrev pub TimeTextsTell : Type 0
+TimeTextsTell = (s t : List ℕ) → AreHeld s → AreHeld t → time_text s ≡ time_text t → s ≡ t
+
+-- the first stage, whose time is not in the text, is at the time of the build
+abbrev pub BeginsAtBuild : List Stage → Type 0
+BeginsAtBuild [] = ⊤
+BeginsAtBuild (s ∷ ss) = s.time ≡ 0 ∷ []
+
+-- names of one text that begin with an item of the file are one
+abbrev pub NameTextsTell : Type 0
+NameTextsTell = (n m : List Stage) → BeginsAtBuild n → BeginsAtBuild m → AreStagesHeld n → AreStagesHeld m → name_text n ≡ name_text m → n ≡ m

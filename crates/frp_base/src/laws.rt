@@ -1,4 +1,4 @@
-ghost use Rattle.frp_base.specs.Laws.{EqualIsSame, Reverses, IsTransitive, IsTotal, BeginningsFirst, ChildrenHaveParents, MadeNamesHaveMakers, MadeNamesAreBorn};
+ghost use Rattle.frp_base.specs.Laws.{EqualIsSame, Reverses, IsTransitive, IsTotal, BeginningsFirst, ChildrenHaveParents, MadeNamesHaveMakers, MadeNamesAreBorn, TimeTextsTell, NameTextsTell};
 ghost use Rattle.frp_base.specs.Time.{time_cmp};
 ghost use Rattle.frp_base.specs.Name.{name_cmp};
 
@@ -29,4 +29,10 @@ pub fn children_have_parents()
 pub fn made_names_have_makers()
     ensures maker { MadeNamesHaveMakers }
     ensures birth { MadeNamesAreBorn }
+{}
+
+/// Different times have different texts, and so have different names that begin with an item of the file.
+pub fn texts_tell()
+    ensures times { TimeTextsTell }
+    ensures names { NameTextsTell }
 {}

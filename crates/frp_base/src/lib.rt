@@ -15,7 +15,7 @@ mod val;
 
 pub use boxed::Boxed;
 pub use laws::{
-    children_have_parents, made_names_have_makers, names_are_ordered, times_are_ordered,
+    children_have_parents, made_names_have_makers, names_are_ordered, texts_tell, times_are_ordered,
 };
 pub use memory::Memory;
 pub use name::{Name, Stage};

@@ -181,6 +181,7 @@ fn laws_and_steps(_rt: HostRuntime) {
     names_are_ordered();
     children_have_parents();
     made_names_have_makers();
+    texts_tell();
     two_steps::<Brand>(Blank::new(1));
 }
 
