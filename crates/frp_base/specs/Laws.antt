@@ -1,4 +1,5 @@
--- The laws of the order of lists, and how children and made names stand to what they were made of.
+-- The laws of the orders of times and of names, how children and made names stand to what they were made of, and what
+-- their texts tell.
 use Rattle.std.specs.Prelude.{◌≡◌, ◌↔◌, ◌⊎◌, ℕ, ◌<◌, ◌^◌, List, [], ◌∷◌, ◌++◌, length, Some, ⊤}
 use Rattle.std.specs.List.{AllByRecursion}
 use Rattle.std.specs.declared.cmp.Ordering.{Ordering}
@@ -15,6 +16,7 @@ EqualIsSame {A} cmp = (a b : A) → (cmp a b ≡ Equal) ↔ (a ≡ b)
 abbrev pub Reverses : {A : Type 0} → (A → A → Ordering) → Type 0
 Reverses {A} cmp = (a b : A) → (cmp a b ≡ Less) ↔ (cmp b a ≡ Greater)
 
+-- what is before one that is before a third is before the third
 abbrev pub IsTransitive : {A : Type 0} → (A → A → Ordering) → Type 0
 IsTransitive {A} cmp = (a b c : A) → cmp a b ≡ Less → cmp b c ≡ Less → cmp a c ≡ Less
 
@@ -22,24 +24,27 @@ IsTransitive {A} cmp = (a b c : A) → cmp a b ≡ Less → cmp b c ≡ Less →
 abbrev pub IsTotal : {A : Type 0} → (A → A → Ordering) → Type 0
 IsTotal {A} cmp = (a b : A) → (cmp a b ≡ Less) ⊎ ((a ≡ b) ⊎ (cmp b a ≡ Less))
 
--- what begins a list, and is not all of it, is before it
+-- a list comes before the longer ones that it begins
 abbrev pub BeginningsFirst : {A : Type 0} → (List A → List A → Ordering) → Type 0
 BeginningsFirst {A} cmp = (xs : List A) (y : A) (ys : List A) → cmp xs (xs ++ y ∷ ys) ≡ Less
 
--- the child of number i of the time t
+-- the child of number i of a time t has the parent t and the number i
 abbrev pub ChildrenHaveParents : Type 0
 ChildrenHaveParents = (t : List ℕ) (i : ℕ) → 0 < length t → parent_and_number (t ++ i ∷ []) ≡ Some (t, i)
 
+-- a name that is made of a name n has the maker n
 abbrev pub MadeNamesHaveMakers : Type 0
 MadeNamesHaveMakers = (n : List Stage) (t : List ℕ) (k : ℕ) → 0 < length n → maker (made_name n t k) ≡ Some n
 
+-- a name that is made at a time t is born at t
 abbrev pub MadeNamesAreBorn : Type 0
 MadeNamesAreBorn = (n : List Stage) (t : List ℕ) (k : ℕ) → birth (made_name n t k) ≡ t
 
--- each number is one that a time holds, of 64 bits; and so are those of each stage
+-- each number is below 2 ^ 64, as those of every `Time` are
 abbrev pub AreHeld : List ℕ → Type 0
 AreHeld = AllByRecursion (λ n. n < 2 ^ 64)
 
+-- and so is each number of each stage, as in every `Name`
 abbrev pub AreStagesHeld : List Stage → Type 0
 AreStagesHeld = AllByRecursion (λ s. AreHeld s.time × s.item < 2 ^ 64)
 
@@ -47,7 +52,7 @@ AreStagesHeld = AllByRecursion (λ s. AreHeld s.time × s.item < 2 ^ 64)
 abbrev pub TimeTextsTell : Type 0
 TimeTextsTell = (s t : List ℕ) → AreHeld s → AreHeld t → time_text s ≡ time_text t → s ≡ t
 
--- the first stage, whose time is not in the text, is at the time of the build
+-- the first stage, whose time is not in the text, is at the time of the build, as that of a declared name is
 abbrev pub BeginsAtBuild : List Stage → Type 0
 BeginsAtBuild [] = ⊤
 BeginsAtBuild (s ∷ ss) = s.time ≡ 0 ∷ []
