@@ -1,4 +1,4 @@
-ghost use Rattle.std.specs.Prelude.{◌≡◌, ◌↔◌, ◌++◌, IsTrue, IfOk, OnOk};
+ghost use Rattle.std.specs.Prelude.{◌≡◌, ◌↔◌, ◌++◌, IsTrue, IfOk, OnOk, OnErr};
 
 use crate::memory::Memory;
 use crate::seq::Seq;
@@ -129,8 +129,19 @@ impl Name {
         all_are(self.stages.as_slice(), other.stages.as_slice())
     }
 
-    /// Appends the text of the name, as `#2` for an item of the file and `#2/[3].0` for a node that it made.
+    /// Appends the text of the name, as `#2` for an item of the file and `#2/[3].0` for a node that it made. Where memory is
+    /// wanting, the text is as before.
     pub fn show(&self, out: &mut Text) -> Result<(), Memory>
+        ensures ok { OnOk result (out.new ≡ out.old ++ name_text self.now) }
+        ensures err { OnErr result (out.new ≡ out.old) }
+    {
+        let mut text = Text::new(self.stages.allocator());
+        self.write(&mut text)?;
+        out.push_str(text.as_str())
+    }
+
+    /// Appends the text of the name, piece by piece.
+    pub(crate) fn write(&self, out: &mut Text) -> Result<(), Memory>
         ensures { OnOk result (out.new ≡ out.old ++ name_text self.now) }
     {
         let alloc = self.stages.allocator();
@@ -139,7 +150,7 @@ impl Name {
         out.push_str(stages[0].item.to_string(alloc)?.as_str())?;
         for stage in &stages[1..] {
             out.push_str("/")?;
-            stage.time.show(out)?;
+            stage.time.write(out)?;
             out.push_str(".")?;
             out.push_str(stage.item.to_string(alloc)?.as_str())?;
         }

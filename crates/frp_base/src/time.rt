@@ -1,4 +1,4 @@
-ghost use Rattle.std.specs.Prelude.{◌≡◌, [], ◌∷◌, ◌++◌, IfOk, OnOk};
+ghost use Rattle.std.specs.Prelude.{◌≡◌, [], ◌∷◌, ◌++◌, IfOk, OnOk, OnErr};
 ghost use Rattle.frp_base.specs.Time.{time_eq, time_text, parent};
 
 use crate::memory::Memory;
@@ -75,8 +75,18 @@ impl Time {
         *self == *other
     }
 
-    /// Appends the text of the time, as `[3,0,1]`.
+    /// Appends the text of the time, as `[3,0,1]`. Where memory is wanting, the text is as before.
     pub fn show(&self, out: &mut Text) -> Result<(), Memory>
+        ensures ok { OnOk result (out.new ≡ out.old ++ time_text self.now) }
+        ensures err { OnErr result (out.new ≡ out.old) }
+    {
+        let mut text = Text::new(*self.numbers.allocator());
+        self.write(&mut text)?;
+        out.push_str(text.as_str())
+    }
+
+    /// Appends the text of the time, piece by piece.
+    pub(crate) fn write(&self, out: &mut Text) -> Result<(), Memory>
         ensures { OnOk result (out.new ≡ out.old ++ time_text self.now) }
     {
         let alloc = *self.numbers.allocator();

@@ -1,4 +1,4 @@
-ghost use Rattle.std.specs.Prelude.{◌≡◌, ◌↔◌, ◌++◌, IsTrue, IfOk, OnOk};
+ghost use Rattle.std.specs.Prelude.{◌≡◌, ◌↔◌, ◌++◌, IsTrue, IfOk, OnOk, OnErr};
 ghost use Rattle.frp_base.specs.Ty.{ty_eq, ty_text};
 
 use crate::boxed::Boxed;
@@ -70,8 +70,18 @@ impl Ty {
     }
 
     /// Appends the text of the type, as `Int`, `Bool`, `Text`, `(Pair Int Bool)`, `(List Int)`, `(Stream Int)`,
-    /// `(Cell Int)` and `(Fun Int Bool)`.
+    /// `(Cell Int)` and `(Fun Int Bool)`. Where memory is wanting, the text is as before.
     pub fn show(&self, alloc: Global, out: &mut Text) -> Result<(), Memory>
+        ensures ok { OnOk result (out.new ≡ out.old ++ ty_text self.now) }
+        ensures err { OnErr result (out.new ≡ out.old) }
+    {
+        let mut text = Text::new(alloc);
+        self.write(alloc, &mut text)?;
+        out.push_str(text.as_str())
+    }
+
+    /// Appends the text, piece by piece.
+    fn write(&self, alloc: Global, out: &mut Text) -> Result<(), Memory>
         ensures { OnOk result (out.new ≡ out.old ++ ty_text self.now) }
     {
         match self {
@@ -80,31 +90,31 @@ impl Ty {
             Ty::Text => out.push_str("Text"),
             Ty::Pair(x, y) => {
                 out.push_str("(Pair ")?;
-                x.get().show(alloc, out)?;
+                x.get().write(alloc, out)?;
                 out.push_str(" ")?;
-                y.get().show(alloc, out)?;
+                y.get().write(alloc, out)?;
                 out.push_str(")")
             }
             Ty::List(item) => {
                 out.push_str("(List ")?;
-                item.get().show(alloc, out)?;
+                item.get().write(alloc, out)?;
                 out.push_str(")")
             }
             Ty::Stream(item) => {
                 out.push_str("(Stream ")?;
-                item.get().show(alloc, out)?;
+                item.get().write(alloc, out)?;
                 out.push_str(")")
             }
             Ty::Cell(item) => {
                 out.push_str("(Cell ")?;
-                item.get().show(alloc, out)?;
+                item.get().write(alloc, out)?;
                 out.push_str(")")
             }
             Ty::Fun(from, to) => {
                 out.push_str("(Fun ")?;
-                from.get().show(alloc, out)?;
+                from.get().write(alloc, out)?;
                 out.push_str(" ")?;
-                to.get().show(alloc, out)?;
+                to.get().write(alloc, out)?;
                 out.push_str(")")
             }
         }

@@ -1,4 +1,4 @@
-ghost use Rattle.std.specs.Prelude.{◌≡◌, ◌↔◌, [], ◌∷◌, ◌++◌, IsTrue, map, encode_utf8, IfOk, OnOk};
+ghost use Rattle.std.specs.Prelude.{◌≡◌, ◌↔◌, [], ◌∷◌, ◌++◌, IsTrue, map, encode_utf8, IfOk, OnOk, OnErr};
 ghost use Rattle.frp_base.specs.Val.{val_eq, val_text, spaced, mark, escaped};
 
 use crate::boxed::Boxed;
@@ -71,9 +71,19 @@ impl Val {
     }
 
     /// Appends the text of the value, as `-3`, `true`, `"a\"b"`, `(pair 1 2)`, `(list 1 2)`, `(stream #1)`, `(cell #2)`
-    /// and `(fun 0 7)`.
-    #[cycle(show)]
+    /// and `(fun 0 7)`. Where memory is wanting, the text is as before.
     pub fn show(&self, alloc: Global, out: &mut Text) -> Result<(), Memory>
+        ensures ok { OnOk result (out.new ≡ out.old ++ val_text self.now) }
+        ensures err { OnErr result (out.new ≡ out.old) }
+    {
+        let mut text = Text::new(alloc);
+        self.write(alloc, &mut text)?;
+        out.push_str(text.as_str())
+    }
+
+    /// Appends the text, piece by piece.
+    #[cycle(write)]
+    fn write(&self, alloc: Global, out: &mut Text) -> Result<(), Memory>
         ensures { OnOk result (out.new ≡ out.old ++ val_text self.now) }
     {
         match self {
@@ -82,9 +92,9 @@ impl Val {
             Val::Text(t) => show_text(t, out),
             Val::Pair(x, y) => {
                 out.push_str("(pair ")?;
-                x.get().show(alloc, out)?;
+                x.get().write(alloc, out)?;
                 out.push_str(" ")?;
-                y.get().show(alloc, out)?;
+                y.get().write(alloc, out)?;
                 out.push_str(")")
             }
             Val::List(items) => {
@@ -94,12 +104,12 @@ impl Val {
             }
             Val::Stream(n) => {
                 out.push_str("(stream ")?;
-                n.show(out)?;
+                n.write(out)?;
                 out.push_str(")")
             }
             Val::Cell(n) => {
                 out.push_str("(cell ")?;
-                n.show(out)?;
+                n.write(out)?;
                 out.push_str(")")
             }
             Val::Fun(f, kept) => {
@@ -141,13 +151,13 @@ fn copy_all(alloc: Global, values: &[Val]) -> Result<Seq<Val>, Memory>
 }
 
 /// Appends the values' texts, each with a space before it.
-#[cycle(show)]
+#[cycle(write)]
 fn show_all(alloc: Global, values: &[Val], out: &mut Text) -> Result<(), Memory>
     ensures { OnOk result (out.new ≡ out.old ++ spaced (map val_text values.now)) }
 {
     for value in values {
         out.push_str(" ")?;
-        value.show(alloc, out)?;
+        value.write(alloc, out)?;
     }
     Ok(())
 }

@@ -1,6 +1,6 @@
 use Rattle.std.proofs.Common.{◌≡◌, [], ◌∷◌, ◌++◌, drop}
 use Rattle.frp_base.specs.Time.{more_numbers, time_text}
-use Rattle.frp_base.proofs.time.Time.show.Given as goal
+use Rattle.frp_base.proofs.time.Time.write.Given as goal
 
 -- what is written so far, what is left and the bracket are the whole
 abbrev pub invariant-loop-n : goal.invariant-loop-n
