@@ -6,7 +6,7 @@ use frp_run::frp_plain;
 use std::{fs, io};
 
 /// The examples: `NAME.frp` is a graph file, and `NAME.report` its report.
-const NAMES: [&str; 2] = ["thermostat", "till"];
+const NAMES: [&str; 3] = ["fridge", "thermostat", "till"];
 
 /// The most bytes of a report.
 const ROOM: usize = 16_777_216;

@@ -1,5 +1,5 @@
 -- The value of an expression over a list of values, and of an expression of the program with kept values.
-use Rattle.std.specs.Prelude.{ℤ, pos, ◌+ℤ◌, List, ◌++◌, slice_index_or}
+use Rattle.std.specs.Prelude.{ℤ, pos, ◌+ℤ◌, ◌-ℤ◌, ◌*ℤ◌, int_lt, List, ◌++◌, slice_index_or}
 use Rattle.std.specs.Int.{int_wrap, w64}
 use Rattle.frp_base.specs.declared.val.Val.{Val, out-Val}
 use Rattle.frp_base.specs.declared.val.Val.TheOpen.{Val-F}
@@ -29,6 +29,9 @@ abbrev pub eval_step : Expr-F Meaning → Meaning
 eval_step (e.Int n) values = v.Int n
 eval_step (e.Var i) values = slice_index_or values i (v.Int (pos 0))
 eval_step (e.Add a b) values = v.Int (int_wrap w64 (int_of (a values) +ℤ int_of (b values)))
+eval_step (e.Sub a b) values = v.Int (int_wrap w64 (int_of (a values) -ℤ int_of (b values)))
+eval_step (e.Mul a b) values = v.Int (int_wrap w64 (int_of (a values) *ℤ int_of (b values)))
+eval_step (e.Lt a b) values = v.Bool (int_lt (int_of (a values)) (int_of (b values)))
 
 abbrev pub eval : Expr → List Val → Val
 eval = fold-Expr Meaning eval_step

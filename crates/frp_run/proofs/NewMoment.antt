@@ -12,7 +12,7 @@ use Rattle.frp_graph.specs.declared.trace.Fact.{Fact}
 use Rattle.frp_graph.specs.declared.trace.Moment.{Moment}
 use Rattle.frp_graph.specs.declared.trace.Prog.{Prog}
 use Rattle.frp_graph.specs.declared.shape.Shape.{Shape}
-use Rattle.frp_graph.specs.declared.shape.Shape.TheVariants.{Sink, Map, Hold}
+use Rattle.frp_graph.specs.declared.shape.Shape.TheVariants.{Sink, Map, Filter, Hold}
 use Rattle.frp_graph.specs.Trace.{or_else, fact_in, node_in, live, occ, Sight, sight_of}
 use Rattle.frp_graph.specs.Equations.{Sent, sent_in, row, MeetsEquation}
 use Rattle.frp_graph.specs.FirstValues.{HasFirst}
@@ -109,6 +109,7 @@ found_all xs = found_after [] xs
 has_first : (prog : Prog) (nodes : List Node) (w : Sight) (k : ℕ) (x : Node) (s : Shape) → IsSmall k x s → HasFirst prog nodes w x s
 has_first prog nodes w k x Sink h = h
 has_first prog nodes w k x (Map f s) h = h.1
+has_first prog nodes w k x (Filter f s) h = h.1
 has_first prog nodes w k x (Hold s) h = h.1
 has_first prog nodes w k x _ h = absurd h
 
@@ -140,6 +141,7 @@ module _ (prog : Prog) (sends : List Sent) (place : ℕ) (sent : Option Fact) (p
   row_seen : (k : ℕ) (x : Node) (s : Shape) → IsSmall k x s → row prog sends (sight_of past m) x s ≡ row prog (sends_at place sent) (sees place occs) x s
   row_seen k x Sink h = ap (λ t. sent_in sends t x.name) time ∙ agree x.name
   row_seen k x (Map f s) h = ap (option_map _) (seen k s h.0)
+  row_seen k x (Filter f s) h = ap (option_and_then _) (seen k s h.0)
   row_seen k x (Hold s) h = seen k s h.0
   row_seen k x _ h = absurd h
 

@@ -15,7 +15,7 @@ use Rattle.frp_graph.specs.Trace.{node_in}
 use Rattle.frp_graph.specs.Legal.{is_sink}
 use Rattle.frp_run.specs.declared.file.File.{File}
 use Rattle.frp_run.specs.declared.file.Item.{Item}
-use Rattle.frp_run.specs.declared.file.Item.TheVariants.{Sink, Map, Hold}
+use Rattle.frp_run.specs.declared.file.Item.TheVariants.{Sink, Map, Filter, Hold}
 use Rattle.frp_run.specs.declared.file.Sending.{Sending}
 use Rattle.frp_run.specs.File.{declares, declares_sink, declares_stream, item_is_lawful, are_lawful, listen_is_lawful, sends_are_lawful, send_is_lawful, is_lawful}
 use Rattle.frp_run.specs.Programs.{position_of, node_named, node_of, nodes_from, prog_of, listens_of, fact_of, sent, sent_facts}
@@ -38,12 +38,14 @@ any_from p q f (i ∷ is) h = elim (cases_Bool (p i)) [
 stream_declares : (name : List ℕ) (i : Item) → declares_stream name i ≡ true → declares name i ≡ true
 stream_declares name (Sink k) h = h
 stream_declares name (Map k x s e) h = h
+stream_declares name (Filter k x s t) h = h
 stream_declares name (Hold k z s) h = absurd (cc)
 
 -- what declares a sink declares
 sink_declares : (name : List ℕ) (i : Item) → declares_sink name i ≡ true → declares name i ≡ true
 sink_declares name (Sink k) h = h
 sink_declares name (Map k x s e) h = absurd (cc)
+sink_declares name (Filter k x s t) h = absurd (cc)
 sink_declares name (Hold k z s) h = absurd (cc)
 
 -- the position of a declared name is that of an item
@@ -58,6 +60,7 @@ position_below name (i ∷ is) h = elim (cases_Bool (declares name i)) [
 pub named_by_place : (earlier : List Item) (i : Item) → (node_of earlier i).name ≡ declared_name (length earlier)
 named_by_place earlier (Sink k) = refl
 named_by_place earlier (Map k x s e) = refl
+named_by_place earlier (Filter k x s t) = refl
 named_by_place earlier (Hold k z s) = refl
 
 -- the operand of a lawful item is an earlier item
@@ -68,6 +71,7 @@ is_earlier earlier s h = (position_of s earlier, (position_below s earlier (any_
 small_item : (earlier : List Item) (i : Item) → item_is_lawful earlier i ≡ true → IsSmall (length earlier) (node_of earlier i) (node_of earlier i).shape
 small_item earlier (Sink k) h = refl
 small_item earlier (Map k x s e) h = (is_earlier earlier s (and_parts _ _ h).1, refl)
+small_item earlier (Filter k x s t) h = (is_earlier earlier s (and_parts _ _ h).1, refl)
 small_item earlier (Hold k z s) h = (is_earlier earlier s (and_parts _ _ h).1, refl)
 
 -- the nodes of lawful items after earlier ones are in order
@@ -115,6 +119,7 @@ no_sink name earlier (Sink k) l e d =
     let new : list_any (declares k) earlier ≡ false = not-true _ (and_parts _ _ l).1 in
     false≢true (sym new ∙ ap (λ n. list_any (declares n) earlier) same ∙ e)
 no_sink name earlier (Map k x o w) l e d = false≢true d
+no_sink name earlier (Filter k x o t) l e d = false≢true d
 no_sink name earlier (Hold k z o) l e d = false≢true d
 
 -- a name that an earlier item declares is declared by no sink after it
@@ -136,6 +141,7 @@ is_that_sink : (name : List ℕ) (earlier : List Item) (i : Item) (is : List Ite
     → list_any (declares_sink name) (i ∷ is) ≡ true → IsTrue (is_sink (Some (node_of earlier i)))
 is_that_sink name earlier (Sink k) is h d s = refl
 is_that_sink name earlier (Map k x o w) is h d s = absurd (no_later_sink name (earlier ++ Map k x o w ∷ []) is h (declared_by_last name earlier (Map k x o w) d) s)
+is_that_sink name earlier (Filter k x o t) is h d s = absurd (no_later_sink name (earlier ++ Filter k x o t ∷ []) is h (declared_by_last name earlier (Filter k x o t) d) s)
 is_that_sink name earlier (Hold k z o) is h d s = absurd (no_later_sink name (earlier ++ Hold k z o ∷ []) is h (declared_by_last name earlier (Hold k z o) d) s)
 
 -- an item that does not declare a name is no sink of it

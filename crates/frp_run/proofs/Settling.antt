@@ -11,7 +11,7 @@ use Rattle.frp_graph.specs.declared.trace.Node.{Node}
 use Rattle.frp_graph.specs.declared.trace.Fact.{Fact}
 use Rattle.frp_graph.specs.declared.trace.Prog.{Prog}
 use Rattle.frp_graph.specs.declared.shape.Shape.{Shape}
-use Rattle.frp_graph.specs.declared.shape.Shape.TheVariants.{Sink, Map, Hold}
+use Rattle.frp_graph.specs.declared.shape.Shape.TheVariants.{Sink, Map, Filter, Hold}
 use Rattle.frp_graph.specs.Equations.{row}
 use Rattle.frp_run.specs.Small.{IsEarlier, IsSmall, AreSmallFrom}
 use Rattle.frp_run.specs.Engine.{sends_at, occ_at, sees, AreSettled, facts_of}
@@ -47,6 +47,7 @@ module _ (prog : Prog) (place : ℕ) (sent : Option Fact) where
       → row prog (sends_at place sent) (sees place (os ++ o ∷ [])) x s ≡ row prog (sends_at place sent) (sees place os) x s
   row_more os o k x Sink h e = refl
   row_more os o k x (Map f s) h e = ap (option_map _) (occ_more os o k s h e.0)
+  row_more os o k x (Filter f s) h e = ap (option_and_then _) (occ_more os o k s h e.0)
   row_more os o k x (Hold s) h e = occ_more os o k s h e.0
   row_more os o k x _ h e = absurd e
 

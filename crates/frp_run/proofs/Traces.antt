@@ -12,7 +12,7 @@ use Rattle.frp_graph.specs.declared.trace.Node.{Node}
 use Rattle.frp_graph.specs.declared.trace.Moment.{Moment}
 use Rattle.frp_graph.specs.declared.trace.Prog.{Prog}
 use Rattle.frp_graph.specs.declared.shape.Shape.{Shape}
-use Rattle.frp_graph.specs.declared.shape.Shape.TheVariants.{Sink, Map, Hold}
+use Rattle.frp_graph.specs.declared.shape.Shape.TheVariants.{Sink, Map, Filter, Hold}
 use Rattle.frp_graph.specs.declared.history.Entry.{Entry}
 use Rattle.frp_graph.specs.Trace.{live, moment_at, sight_of, Sight}
 use Rattle.frp_graph.specs.Equations.{Sent, sent_in, row}
@@ -43,6 +43,7 @@ any_none p (x ∷ xs) h = rw h.0 (any_none p xs h.1)
 no_items : (m : Moment) (k : ℕ) (x : Node) (s : Shape) → IsSmall k x s → items_to_split m s ≡ 0
 no_items m k x Sink h = refl
 no_items m k x (Map f s) h = refl
+no_items m k x (Filter f s) h = refl
 no_items m k x (Hold s) h = refl
 no_items m k x _ h = absurd h
 

@@ -5,11 +5,12 @@ use Rattle.std.specs.Fmt.{signed_decimal}
 use lib.Pointwise.{pointwise}
 use Rattle.frp_run.specs.declared.file.File.{File}
 use Rattle.frp_run.specs.declared.file.Item.{Item}
-use Rattle.frp_run.specs.declared.file.Item.TheVariants.{Sink, Map, Hold}
+use Rattle.frp_run.specs.declared.file.Item.TheVariants.{Sink, Map, Filter, Hold}
 use Rattle.frp_run.specs.declared.file.Num.{Num}
 use Rattle.frp_run.specs.declared.file.Num.TheOpen.{Num-F}
 use Rattle.frp_run.specs.declared.file.Num.TheOpen as n
 use Rattle.frp_run.specs.declared.file.Num.TheFolds.{fold-Num}
+use Rattle.frp_run.specs.declared.file.Test.{Test}
 use Rattle.frp_run.specs.declared.file.Sending.{Sending}
 
 abbrev pub text_eq : List ℕ → List ℕ → Bool
@@ -17,17 +18,27 @@ text_eq = pointwise ◌==◌
 
 -- How a file is written, on one line.
 
+-- two parts and the right parenthesis
+abbrev pub parts_text : List ℕ → List ℕ → List ℕ
+parts_text a b = a ++ codes " " ++ b ++ codes ")"
+
 abbrev pub num_text_of : Num-F (List ℕ) → List ℕ
 num_text_of (n.Int z) = signed_decimal z
 num_text_of (n.Variable x) = x
-num_text_of (n.Add a b) = codes "(add " ++ a ++ codes " " ++ b ++ codes ")"
+num_text_of (n.Add a b) = codes "(add " ++ parts_text a b
+num_text_of (n.Sub a b) = codes "(sub " ++ parts_text a b
+num_text_of (n.Mul a b) = codes "(mul " ++ parts_text a b
 
 abbrev pub num_text : Num → List ℕ
 num_text = fold-Num (List ℕ) num_text_of
 
+abbrev pub test_text : Test → List ℕ
+test_text t = codes "(lt " ++ parts_text (num_text t.a) (num_text t.b)
+
 abbrev pub item_text : Item → List ℕ
 item_text (Sink name) = codes "(sink " ++ name ++ codes " Int)"
 item_text (Map name x s e) = codes "(let " ++ name ++ codes " (map " ++ x ++ codes " " ++ s ++ codes " " ++ num_text e ++ codes "))"
+item_text (Filter name x s t) = codes "(let " ++ name ++ codes " (filter " ++ x ++ codes " " ++ s ++ codes " " ++ test_text t ++ codes "))"
 item_text (Hold name z s) = codes "(let " ++ name ++ codes " (hold " ++ signed_decimal z ++ codes " " ++ s ++ codes "))"
 
 abbrev pub send_text : Sending → List ℕ
@@ -84,24 +95,35 @@ fits z = int_le (neg_ℤ (pos (2 ^ 63))) z && int_lt z (pos (2 ^ 63))
 
 abbrev pub depth_of : Num-F ℕ → ℕ
 depth_of (n.Add a b) = max a b + 1
+depth_of (n.Sub a b) = max a b + 1
+depth_of (n.Mul a b) = max a b + 1
 depth_of _ = 1
 
 -- an atom has depth 1, a form is one deeper than its deepest part
 abbrev pub depth : Num → ℕ
 depth = fold-Num ℕ depth_of
 
+abbrev pub test_depth : Test → ℕ
+test_depth t = max (depth t.a) (depth t.b) + 1
+
 -- each number fits, and each name is the variable
 abbrev pub is_over_step : List ℕ → Num-F Bool → Bool
 is_over_step x (n.Int z) = fits z
 is_over_step x (n.Variable y) = text_eq y x
 is_over_step x (n.Add a b) = a && b
+is_over_step x (n.Sub a b) = a && b
+is_over_step x (n.Mul a b) = a && b
 
 abbrev pub is_over : List ℕ → Num → Bool
 is_over x = fold-Num Bool (is_over_step x)
 
+abbrev pub test_is_over : List ℕ → Test → Bool
+test_is_over x t = is_over x t.a && is_over x t.b
+
 abbrev pub name_of : Item → List ℕ
 name_of (Sink name) = name
 name_of (Map name x s e) = name
+name_of (Filter name x s t) = name
 name_of (Hold name z s) = name
 
 abbrev pub declares : List ℕ → Item → Bool
@@ -115,11 +137,13 @@ abbrev pub declares_stream : List ℕ → Item → Bool
 declares_stream name (Hold k z s) = false
 declares_stream name i = declares name i
 
--- an item after these earlier ones: its name is new, and its operand is an earlier sink or map
+-- an item after these earlier ones: its name is new, and its operand is an earlier sink, map or filter
 abbrev pub item_is_lawful : List Item → Item → Bool
 item_is_lawful earlier (Sink name) = is_name name && not (list_any (declares name) earlier)
 item_is_lawful earlier (Map name x s e) =
     is_name name && is_name x && is_over x e && nat_le (depth e) 16 && not (list_any (declares name) earlier) && list_any (declares_stream s) earlier
+item_is_lawful earlier (Filter name x s t) =
+    is_name name && is_name x && test_is_over x t && nat_le (test_depth t) 16 && not (list_any (declares name) earlier) && list_any (declares_stream s) earlier
 item_is_lawful earlier (Hold name z s) =
     is_name name && fits z && not (list_any (declares name) earlier) && list_any (declares_stream s) earlier
 

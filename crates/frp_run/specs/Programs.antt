@@ -12,11 +12,12 @@ use Rattle.frp_graph.specs.declared.trace.Prog.{Prog}
 use Rattle.frp_graph.specs.declared.shape.Shape.TheVariants as s
 use Rattle.frp_run.specs.declared.file.File.{File}
 use Rattle.frp_run.specs.declared.file.Item.{Item}
-use Rattle.frp_run.specs.declared.file.Item.TheVariants.{Sink, Map, Hold}
+use Rattle.frp_run.specs.declared.file.Item.TheVariants.{Sink, Map, Filter, Hold}
 use Rattle.frp_run.specs.declared.file.Num.{Num}
 use Rattle.frp_run.specs.declared.file.Num.TheOpen.{Num-F}
 use Rattle.frp_run.specs.declared.file.Num.TheOpen as n
 use Rattle.frp_run.specs.declared.file.Num.TheFolds.{fold-Num}
+use Rattle.frp_run.specs.declared.file.Test.{Test}
 use Rattle.frp_run.specs.declared.file.Sending.{Sending}
 use Rattle.frp_run.specs.File.{declares}
 
@@ -29,19 +30,25 @@ position_of name (i ∷ is) = if declares name i then 0 else suc (position_of na
 abbrev pub node_named : List Item → List ℕ → Name
 node_named items name = declared_name (position_of name items)
 
--- the one variable of a map is its only argument
+-- the one variable of a map or a filter is its only argument
 abbrev pub expr_step : Num-F Expr → Expr
 expr_step (n.Int z) = e.Int z
 expr_step (n.Variable x) = e.Var 0
 expr_step (n.Add a b) = e.Add a b
+expr_step (n.Sub a b) = e.Sub a b
+expr_step (n.Mul a b) = e.Mul a b
 
 abbrev pub expr_of : Num → Expr
 expr_of = fold-Num Expr expr_step
 
--- the expressions of the maps, in order
+abbrev pub test_of : Test → Expr
+test_of t = e.Lt (expr_of t.a) (expr_of t.b)
+
+-- the expressions of the maps and filters, in order
 abbrev pub codes_of : List Item → List Expr
 codes_of [] = []
 codes_of (Map name x s e ∷ is) = expr_of e ∷ codes_of is
+codes_of (Filter name x s t ∷ is) = test_of t ∷ codes_of is
 codes_of (_ ∷ is) = codes_of is
 
 -- the node of an item after these earlier ones
@@ -49,6 +56,8 @@ abbrev pub node_of : List Item → Item → Node
 node_of earlier (Sink name) = record { name = declared_name (length earlier); shape = s.Sink; ty = t.Stream t.Int; first = None }
 node_of earlier (Map name x of e) =
     record { name = declared_name (length earlier); shape = s.Map (record { code = length (codes_of earlier); kept = [] }) (node_named earlier of); ty = t.Stream t.Int; first = None }
+node_of earlier (Filter name x of test) =
+    record { name = declared_name (length earlier); shape = s.Filter (record { code = length (codes_of earlier); kept = [] }) (node_named earlier of); ty = t.Stream t.Int; first = None }
 node_of earlier (Hold name z of) =
     record { name = declared_name (length earlier); shape = s.Hold (node_named earlier of); ty = t.Cell t.Int; first = Some (v.Int z) }
 

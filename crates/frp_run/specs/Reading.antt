@@ -6,10 +6,13 @@ use Rattle.std.specs.Str.Parse.{signed_digits_value}
 use Rattle.frp_run.specs.File.{text_eq, is_in_name, fits}
 use Rattle.frp_run.specs.declared.file.File.{File}
 use Rattle.frp_run.specs.declared.file.Item.{Item}
-use Rattle.frp_run.specs.declared.file.Item.TheVariants.{Sink, Map, Hold}
+use Rattle.frp_run.specs.declared.file.Item.TheVariants.{Sink, Map, Filter, Hold}
 use Rattle.frp_run.specs.declared.file.Num.{Num}
 use Rattle.frp_run.specs.declared.file.Num.TheVariants as n
+use Rattle.frp_run.specs.declared.file.Test.{Test}
 use Rattle.frp_run.specs.declared.file.Sending.{Sending}
+use Rattle.frp_run.specs.declared.reader.forms.Operation.{Operation}
+use Rattle.frp_run.specs.declared.reader.forms.Operation.TheVariants as op
 use Rattle.frp_run.specs.declared.reader.stop.ReadStop.{ReadStop}
 use Rattle.frp_run.specs.declared.reader.stop.ReadStop.TheVariants as stop
 
@@ -67,24 +70,46 @@ atom_at bytes = do
   word ← word_at bytes
   Some (atom_by word.0 (number_of word.0), word.1)
 
+-- what an operation makes of two parts
+abbrev pub made : Operation → Num → Num → Num
+made op.Add a b = n.Add a b
+made op.Sub a b = n.Sub a b
+made op.Mul a b = n.Mul a b
+
 module _ (sub : List ℕ → Outcome Num) where
-  -- what follows the head of a sum
-  unfoldable pub sum_at : List ℕ → Outcome Num
-  sum_at bytes = do
+  -- two parts and the right parenthesis
+  unfoldable pub parts_at : List ℕ → Outcome (Num × Num)
+  parts_at bytes = do
     a ← sub bytes
     middle ← after (codes " ") a.1
     b ← sub middle
     rest ← after (codes ")") b.1
-    Some (n.Add a.0 b.0, rest)
+    Some ((a.0, b.0), rest)
 
-  abbrev pub num_by : List ℕ → Option (List ℕ) → Outcome Num
-  num_by bytes (Some rest) = sum_at rest
-  num_by bytes None = atom_at bytes
+  -- the form of this operation
+  unfoldable pub form_at : Operation → List ℕ → Outcome Num
+  form_at operation bytes = do
+    ab ← parts_at bytes
+    Some (made operation ab.0.0 ab.0.1, ab.1)
+
+  abbrev pub num_by : List ℕ → Option (List ℕ) → Option (List ℕ) → Option (List ℕ) → Outcome Num
+  num_by bytes (Some rest) p q = form_at op.Add rest
+  num_by bytes None (Some rest) q = form_at op.Sub rest
+  num_by bytes None None (Some rest) = form_at op.Mul rest
+  num_by bytes None None None = atom_at bytes
 
 -- an expression of at most so many levels
 unfoldable pub num_at : ℕ → List ℕ → Outcome Num
 num_at zero bytes = None
-num_at (suc room) bytes = num_by (num_at room) bytes (after (codes "(add ") bytes)
+num_at (suc room) bytes = num_by (num_at room) bytes (after (codes "(add ") bytes) (after (codes "(sub ") bytes) (after (codes "(mul ") bytes)
+
+-- a test of at most so many levels
+unfoldable pub test_at : ℕ → List ℕ → Outcome Test
+test_at zero bytes = None
+test_at (suc room) bytes = do
+  first ← after (codes "(lt ") bytes
+  ab ← parts_at (num_at room) first
+  Some (record { a = ab.0.0; b = ab.0.1 }, ab.1)
 
 -- what follows the head of an item
 unfoldable pub sink_at : List ℕ → Outcome Item
@@ -103,6 +128,16 @@ map_at room name bytes = do
   rest ← after (codes "))") e.1
   Some (Map name x.0 s.0 e.0, rest)
 
+unfoldable pub filter_at : ℕ → List ℕ → List ℕ → Outcome Item
+filter_at room name bytes = do
+  x ← word_at bytes
+  second ← after (codes " ") x.1
+  s ← word_at second
+  third ← after (codes " ") s.1
+  t ← test_at room third
+  rest ← after (codes "))") t.1
+  Some (Filter name x.0 s.0 t.0, rest)
+
 unfoldable pub hold_at : List ℕ → List ℕ → Outcome Item
 hold_at name bytes = do
   z ← number_at bytes
@@ -111,15 +146,16 @@ hold_at name bytes = do
   rest ← after (codes "))") s.1
   Some (Hold name z.0 s.0, rest)
 
-abbrev pub let_by : ℕ → List ℕ → Option (List ℕ) → Option (List ℕ) → Outcome Item
-let_by room name (Some rest) other = map_at room name rest
-let_by room name None (Some rest) = hold_at name rest
-let_by room name None None = None
+abbrev pub let_by : ℕ → List ℕ → Option (List ℕ) → Option (List ℕ) → Option (List ℕ) → Outcome Item
+let_by room name (Some rest) p q = map_at room name rest
+let_by room name None (Some rest) q = filter_at room name rest
+let_by room name None None (Some rest) = hold_at name rest
+let_by room name None None None = None
 
 unfoldable pub let_at : ℕ → List ℕ → Outcome Item
 let_at room bytes = do
   name ← word_at bytes
-  let_by room name.0 (after (codes " (map ") name.1) (after (codes " (hold ") name.1)
+  let_by room name.0 (after (codes " (map ") name.1) (after (codes " (filter ") name.1) (after (codes " (hold ") name.1)
 
 abbrev pub item_by : ℕ → Option (List ℕ) → Option (List ℕ) → Outcome Item
 item_by room (Some rest) other = sink_at rest

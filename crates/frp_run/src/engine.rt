@@ -1,10 +1,11 @@
 //! The plain engine: at each moment it takes all nodes in the order of the items.
 
-ghost use Rattle.std.specs.Prelude.{◌≡◌, ◌<◌, [], ◌∷◌, IfOk, List, length};
+ghost use Rattle.std.specs.Prelude.{◌≡◌, ◌<◌, [], ◌∷◌, IfOk, List, Some, length};
 ghost use Rattle.std.specs.Option.{option_copied};
 ghost use Rattle.frp_graph.specs.declared.trace.Node.{Node};
 ghost use Rattle.frp_graph.specs.Eval.{code_on};
-ghost use Rattle.frp_graph.specs.Equations.{row, sent_in};
+ghost use Rattle.frp_base.specs.declared.val.Val.{out-Val};
+ghost use Rattle.frp_graph.specs.Equations.{row, sent_in, keep_if, bool_in};
 ghost use Rattle.frp_run.specs.Small.{AreSmallFrom, IsSmall};
 ghost use Rattle.frp_run.specs.Engine.{occ_at, sends_at, sees, AreSettled, facts_of, AreFacts, program_of};
 
@@ -64,6 +65,10 @@ fn occurrence(
             Some(value) => Ok(Some(applied(alloc, codes, f, value)?)),
             None => Ok(None),
         },
+        Shape::Filter { f, s } => match occurrence_of(occs, s) {
+            Some(value) => kept(alloc, codes, f, value),
+            None => Ok(None),
+        },
         Shape::Hold { s } => match occurrence_of(occs, s) {
             Some(value) => Ok(Some(value.copy(alloc)?)),
             None => Ok(None),
@@ -101,6 +106,24 @@ fn occurrence_of<'a>(occs: &'a [Option<Val>], name: &Name) -> Option<&'a Val>
         Some(Some(value)) => Some(value),
         _ => None,
     }
+}
+
+/// An argument that an expression of the program holds of, or none.
+fn kept(alloc: Global, codes: &[Expr], f: &Lam, argument: &Val) -> Result<Option<Val>, Memory>
+    ensures { IfOk result (λ o. o ≡ keep_if (bool_in (out-Val (code_on codes.now f.now (argument.now ∷ [])))) (Some argument.now)) }
+{
+    if is_true(&applied(alloc, codes, f, argument)?) {
+        Ok(Some(argument.copy(alloc)?))
+    } else {
+        Ok(None)
+    }
+}
+
+/// Whether a value is the truth.
+fn is_true(value: &Val) -> bool
+    ensures { result ≡ bool_in (out-Val value.now) }
+{
+    if let Val::Bool(b) = value { *b } else { false }
 }
 
 /// An expression of the program on an argument.

@@ -21,6 +21,12 @@ pub enum Item {
         of: Text,
         e: Num,
     },
+    Filter {
+        name: Text,
+        variable: Text,
+        of: Text,
+        test: Test,
+    },
     Hold {
         name: Text,
         first: i64,
@@ -34,6 +40,15 @@ pub enum Num {
     Int(i64),
     Variable(Text),
     Add(Boxed<Num>, Boxed<Num>),
+    Sub(Boxed<Num>, Boxed<Num>),
+    Mul(Boxed<Num>, Boxed<Num>),
+}
+
+/// The test that `a` is less than `b`.
+#[derive(Drop)]
+pub struct Test {
+    pub a: Num,
+    pub b: Num,
 }
 
 /// A send of a number to the sink of this name.

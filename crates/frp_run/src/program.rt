@@ -1,14 +1,14 @@
 ghost use Rattle.std.specs.Prelude.{◌≡◌, ◌≤◌, [], IfOk, length, map};
 ghost use Rattle.std.specs.Option.{option_to_list};
 ghost use Rattle.frp_run.specs.File.{name_of};
-ghost use Rattle.frp_run.specs.Programs.{position_of, node_named, expr_of, codes_of, node_of, nodes_from, prog_of, listens_of, fact_of, sent_facts};
+ghost use Rattle.frp_run.specs.Programs.{position_of, node_named, expr_of, test_of, codes_of, node_of, nodes_from, prog_of, listens_of, fact_of, sent_facts};
 
-use crate::file::{File, Item, Num, Sending};
+use crate::file::{File, Item, Num, Sending, Test};
 use frp_base::{Boxed, Memory, Name, Seq, Text, Ty, Val};
 use frp_graph::{Expr, Fact, Lam, Node, Prog, Shape};
 use std::alloc::Global;
 
-/// The program of a file of at most 1,000 items: a node for each item, and an expression for each map.
+/// The program of a file of at most 1,000 items: a node for each item, and an expression for each map and each filter.
 pub fn program(alloc: Global, file: &File) -> Result<Prog, Memory>
     requires { length file.now.items ≤ 1000 }
     ensures { IfOk result (λ p. p ≡ prog_of file.now) }
@@ -54,31 +54,35 @@ fn facts(alloc: Global, items: &[Item], sends: &[Sending]) -> Result<Seq<Fact>, 
     Ok(facts)
 }
 
-/// The expressions of the maps, in order.
+/// The expressions of the maps and filters, in order.
 fn codes(alloc: Global, items: &[Item]) -> Result<Seq<Expr>, Memory>
     ensures { IfOk result (λ codes. codes ≡ codes_of items.now) }
 {
     let mut codes = Seq::new(alloc);
     for item in items {
-        if let Item::Map { e, .. } = item {
-            codes.add(expression(alloc, e)?)?;
+        match item {
+            Item::Map { e, .. } => codes.add(expression(alloc, e)?)?,
+            Item::Filter { test, .. } => codes.add(test_expression(alloc, test)?)?,
+            _ => {}
         }
     }
     Ok(codes)
 }
 
-/// How many of the items are maps.
-fn count_maps(items: &[Item]) -> u32
+/// How many of the items have an expression: the maps and the filters.
+fn count_codes(items: &[Item]) -> u32
     requires { length items.now ≤ 1000 }
     ensures { result ≡ length (codes_of items.now) }
 {
-    let mut maps = 0;
+    let mut codes = 0;
     for item in items {
-        if let Item::Map { .. } = item {
-            maps += 1;
+        match item {
+            Item::Map { .. } => codes += 1,
+            Item::Filter { .. } => codes += 1,
+            _ => {}
         }
     }
-    maps
+    codes
 }
 
 /// The nodes of the items, in order.
@@ -118,16 +122,29 @@ fn node_shape(alloc: Global, earlier: &[Item], item: &Item) -> Result<Shape, Mem
         Item::Sink { .. } => Ok(Shape::Sink),
         Item::Map { of, .. } => {
             let s = named(alloc, earlier, of)?;
-            let f = Lam {
-                code: count_maps(earlier),
-                kept: Seq::new(alloc),
-            };
+            let f = next_code(alloc, earlier);
             Ok(Shape::Map { f, s })
+        }
+        Item::Filter { of, .. } => {
+            let s = named(alloc, earlier, of)?;
+            let f = next_code(alloc, earlier);
+            Ok(Shape::Filter { f, s })
         }
         Item::Hold { of, .. } => {
             let s = named(alloc, earlier, of)?;
             Ok(Shape::Hold { s })
         }
+    }
+}
+
+/// The expression after those of these items, with no kept values.
+fn next_code(alloc: Global, earlier: &[Item]) -> Lam
+    requires { length earlier.now ≤ 1000 }
+    ensures { result ≡ record { code = length (codes_of earlier.now); kept = [] } }
+{
+    Lam {
+        code: count_codes(earlier),
+        kept: Seq::new(alloc),
     }
 }
 
@@ -164,7 +181,26 @@ fn expression(alloc: Global, e: &Num) -> Result<Expr, Memory>
             let b = Boxed::new(alloc, expression(alloc, b.get())?)?;
             Ok(Expr::Add(a, b))
         }
+        Num::Sub(a, b) => {
+            let a = Boxed::new(alloc, expression(alloc, a.get())?)?;
+            let b = Boxed::new(alloc, expression(alloc, b.get())?)?;
+            Ok(Expr::Sub(a, b))
+        }
+        Num::Mul(a, b) => {
+            let a = Boxed::new(alloc, expression(alloc, a.get())?)?;
+            let b = Boxed::new(alloc, expression(alloc, b.get())?)?;
+            Ok(Expr::Mul(a, b))
+        }
     }
+}
+
+/// A test of a file, as an expression over a list of one value.
+fn test_expression(alloc: Global, test: &Test) -> Result<Expr, Memory>
+    ensures { IfOk result (λ expr. expr ≡ test_of test.now) }
+{
+    let a = Boxed::new(alloc, expression(alloc, &test.a)?)?;
+    let b = Boxed::new(alloc, expression(alloc, &test.b)?)?;
+    Ok(Expr::Lt(a, b))
 }
 
 /// The node of the item that declares this name.
@@ -193,6 +229,7 @@ fn name_of(item: &Item) -> &Text
     match item {
         Item::Sink { name } => name,
         Item::Map { name, .. } => name,
+        Item::Filter { name, .. } => name,
         Item::Hold { name, .. } => name,
     }
 }

@@ -1,14 +1,22 @@
 //! Expressions, items, sends and files, as they are written.
 
-ghost use Rattle.std.specs.Prelude.{[]};
+ghost use Rattle.std.specs.Prelude.{◌≡◌, []};
 ghost use Rattle.frp_run.specs.Reading as spec;
 ghost use Rattle.frp_run.specs.Reading.{Reads};
 
-use crate::file::{File, Item, Num, Sending};
+use crate::file::{File, Item, Num, Sending, Test};
 use crate::reader::ReadStop;
 use crate::reader::words::{after, expect, name, number, number_of, text_of, word};
 use frp_base::{Boxed, Seq, Text};
 use std::alloc::Global;
+
+/// What is done with two numbers.
+#[derive(Clone, Copy, Debug, PartialEq, Eq)]
+enum Operation {
+    Add,
+    Sub,
+    Mul,
+}
 
 /// A number or a name.
 #[tactic(auto, unfolding(crate::specs::Reading::atom_at))]
@@ -22,18 +30,44 @@ fn atom(alloc: Global, bytes: &[u8]) -> Result<(Num, &[u8]), ReadStop>
     }
 }
 
-/// What follows the head of a sum whose parts have at most so many levels.
+/// Two parts of at most so many levels, and the right parenthesis.
 #[cycle(num)]
-#[tactic(auto, unfolding(crate::specs::Reading::sum_at))]
-fn sum(alloc: Global, room: usize, bytes: &[u8]) -> Result<(Num, &[u8]), ReadStop>
-    ensures { Reads (λ x. (x.0, x.1.now)) result (spec.sum_at (spec.num_at room) bytes.now) }
+#[tactic(auto, unfolding(crate::specs::Reading::parts_at))]
+fn parts(alloc: Global, room: usize, bytes: &[u8]) -> Result<((Num, Num), &[u8]), ReadStop>
+    ensures { Reads (λ x. (x.0, x.1.now)) result (spec.parts_at (spec.num_at room) bytes.now) }
 {
     let (a, rest) = num(alloc, room, bytes)?;
     let rest = expect(b" ", rest)?;
     let (b, rest) = num(alloc, room, rest)?;
     let rest = expect(b")", rest)?;
-    let sum = Num::Add(Boxed::new(alloc, a)?, Boxed::new(alloc, b)?);
-    Ok((sum, rest))
+    Ok(((a, b), rest))
+}
+
+/// What an operation makes of two parts.
+fn made(operation: Operation, a: Boxed<Num>, b: Boxed<Num>) -> Num
+    ensures { result ≡ spec.made operation a b }
+{
+    match operation {
+        Operation::Add => Num::Add(a, b),
+        Operation::Sub => Num::Sub(a, b),
+        Operation::Mul => Num::Mul(a, b),
+    }
+}
+
+/// What follows the head of an operation whose parts have at most so many levels.
+#[cycle(num)]
+#[tactic(auto, unfolding(crate::specs::Reading::form_at))]
+fn form(
+    alloc: Global,
+    operation: Operation,
+    room: usize,
+    bytes: &[u8],
+) -> Result<(Num, &[u8]), ReadStop>
+    ensures { Reads (λ x. (x.0, x.1.now)) result (spec.form_at (spec.num_at room) operation bytes.now) }
+{
+    let ((a, b), rest) = parts(alloc, room, bytes)?;
+    let num = made(operation, Boxed::new(alloc, a)?, Boxed::new(alloc, b)?);
+    Ok((num, rest))
 }
 
 /// An expression of at most so many levels.
@@ -45,10 +79,29 @@ fn num(alloc: Global, room: usize, bytes: &[u8]) -> Result<(Num, &[u8]), ReadSto
     if room == 0 {
         return Err(ReadStop::NoFile);
     }
-    match after(b"(add ", bytes) {
-        Some(rest) => sum(alloc, room - 1, rest),
+    if let Some(rest) = after(b"(add ", bytes) {
+        return form(alloc, Operation::Add, room - 1, rest);
+    }
+    if let Some(rest) = after(b"(sub ", bytes) {
+        return form(alloc, Operation::Sub, room - 1, rest);
+    }
+    match after(b"(mul ", bytes) {
+        Some(rest) => form(alloc, Operation::Mul, room - 1, rest),
         None => atom(alloc, bytes),
     }
+}
+
+/// A test of at most so many levels.
+#[tactic(auto, unfolding(crate::specs::Reading::test_at))]
+fn test(alloc: Global, room: usize, bytes: &[u8]) -> Result<(Test, &[u8]), ReadStop>
+    ensures { Reads (λ x. (x.0, x.1.now)) result (spec.test_at room bytes.now) }
+{
+    if room == 0 {
+        return Err(ReadStop::NoFile);
+    }
+    let rest = expect(b"(lt ", bytes)?;
+    let ((a, b), rest) = parts(alloc, room - 1, rest)?;
+    Ok((Test { a, b }, rest))
 }
 
 /// What follows the head of a sink.
@@ -86,6 +139,31 @@ fn map_of(
     Ok((item, rest))
 }
 
+/// What follows the head of a filter.
+#[tactic(auto, unfolding(crate::specs::Reading::filter_at))]
+fn filter(
+    alloc: Global,
+    room: usize,
+    name_of: Text,
+    bytes: &[u8],
+) -> Result<(Item, &[u8]), ReadStop>
+    ensures { Reads (λ x. (x.0, x.1.now)) result (spec.filter_at room name_of bytes.now) }
+{
+    let (variable, rest) = name(alloc, bytes)?;
+    let rest = expect(b" ", rest)?;
+    let (of, rest) = name(alloc, rest)?;
+    let rest = expect(b" ", rest)?;
+    let (test, rest) = test(alloc, room, rest)?;
+    let rest = expect(b"))", rest)?;
+    let item = Item::Filter {
+        name: name_of,
+        variable,
+        of,
+        test,
+    };
+    Ok((item, rest))
+}
+
 /// What follows the head of a hold.
 #[tactic(auto, unfolding(crate::specs::Reading::hold_at))]
 fn hold(alloc: Global, name_of: Text, bytes: &[u8]) -> Result<(Item, &[u8]), ReadStop>
@@ -103,7 +181,7 @@ fn hold(alloc: Global, name_of: Text, bytes: &[u8]) -> Result<(Item, &[u8]), Rea
     Ok((item, rest))
 }
 
-/// What follows the head of a map or a hold with its name.
+/// What follows the head of a map, a filter or a hold with its name.
 #[tactic(auto, unfolding(crate::specs::Reading::let_at))]
 fn let_of(alloc: Global, room: usize, bytes: &[u8]) -> Result<(Item, &[u8]), ReadStop>
     ensures { Reads (λ x. (x.0, x.1.now)) result (spec.let_at room bytes.now) }
@@ -111,6 +189,9 @@ fn let_of(alloc: Global, room: usize, bytes: &[u8]) -> Result<(Item, &[u8]), Rea
     let (name, rest) = name(alloc, bytes)?;
     if let Some(rest) = after(b" (map ", rest) {
         return map_of(alloc, room, name, rest);
+    }
+    if let Some(rest) = after(b" (filter ", rest) {
+        return filter(alloc, room, name, rest);
     }
     match after(b" (hold ", rest) {
         Some(rest) => hold(alloc, name, rest),

@@ -4,7 +4,7 @@ ghost use Rattle.std.specs.Prelude.{◌≡◌, nat_le, []};
 ghost use Rattle.std.specs.List.{list_any, list_all};
 ghost use Rattle.frp_run.specs.File as grammar;
 
-use crate::file::{File, Item, Num, Sending};
+use crate::file::{File, Item, Num, Sending, Test};
 use crate::reader::words::{is_in_name, is_lower};
 use frp_base::{Seq, Text};
 
@@ -69,8 +69,17 @@ fn has_levels(e: &Num, room: usize) -> bool
     }
     match e {
         Num::Add(a, b) => has_levels(a.get(), room - 1) && has_levels(b.get(), room - 1),
+        Num::Sub(a, b) => has_levels(a.get(), room - 1) && has_levels(b.get(), room - 1),
+        Num::Mul(a, b) => has_levels(a.get(), room - 1) && has_levels(b.get(), room - 1),
         _ => true,
     }
+}
+
+/// Whether a test has at most so many levels.
+fn test_has_levels(test: &Test, room: usize) -> bool
+    ensures { result ≡ nat_le (grammar.test_depth test.now) room }
+{
+    room > 0 && has_levels(&test.a, room - 1) && has_levels(&test.b, room - 1)
 }
 
 /// Whether each name of an expression is the variable.
@@ -81,7 +90,16 @@ fn is_over(variable: &Text, e: &Num) -> bool
         Num::Int(z) => fits(*z),
         Num::Variable(name) => is_text(name, variable),
         Num::Add(a, b) => is_over(variable, a.get()) && is_over(variable, b.get()),
+        Num::Sub(a, b) => is_over(variable, a.get()) && is_over(variable, b.get()),
+        Num::Mul(a, b) => is_over(variable, a.get()) && is_over(variable, b.get()),
     }
+}
+
+/// Whether each name of a test is the variable.
+fn test_is_over(variable: &Text, test: &Test) -> bool
+    ensures { result ≡ grammar.test_is_over variable.now test.now }
+{
+    is_over(variable, &test.a) && is_over(variable, &test.b)
 }
 
 /// Whether an item declares this name.
@@ -91,6 +109,7 @@ fn declares(name: &Text, item: &Item) -> bool
     match item {
         Item::Sink { name: own } => is_text(own, name),
         Item::Map { name: own, .. } => is_text(own, name),
+        Item::Filter { name: own, .. } => is_text(own, name),
         Item::Hold { name: own, .. } => is_text(own, name),
     }
 }
@@ -105,13 +124,14 @@ fn declares_sink(name: &Text, item: &Item) -> bool
     }
 }
 
-/// Whether an item is the sink or the map of this name.
+/// Whether an item is the sink, the map or the filter of this name.
 fn declares_stream(name: &Text, item: &Item) -> bool
     ensures { result ≡ grammar.declares_stream name.now item.now }
 {
     match item {
         Item::Sink { name: own } => is_text(own, name),
         Item::Map { name: own, .. } => is_text(own, name),
+        Item::Filter { name: own, .. } => is_text(own, name),
         Item::Hold { .. } => false,
     }
 }
@@ -130,7 +150,7 @@ fn is_sink(name: &Text, items: &[Item]) -> bool
     items.iter().any(|item| declares_sink(name, item))
 }
 
-/// Whether one of the items is the sink or the map of this name.
+/// Whether one of the items is the sink, the map or the filter of this name.
 fn is_stream(name: &Text, items: &[Item]) -> bool
     ensures { result ≡ list_any (grammar.declares_stream name.now) items.now }
 {
@@ -149,6 +169,24 @@ fn map_is_lawful(earlier: &[Item], name: &Text, variable: &Text, of: &Text, e: &
         && is_stream(of, earlier)
 }
 
+/// Whether a filter is lawful after these earlier items.
+fn filter_is_lawful(
+    earlier: &[Item],
+    name: &Text,
+    variable: &Text,
+    of: &Text,
+    test: &Test,
+) -> bool
+    ensures { result ≡ grammar.item_is_lawful earlier.now (Item.Filter name.now variable.now of.now test.now) }
+{
+    is_name(name)
+        && is_name(variable)
+        && test_is_over(variable, test)
+        && test_has_levels(test, LEVELS)
+        && !is_declared(name, earlier)
+        && is_stream(of, earlier)
+}
+
 /// Whether an item is lawful after these earlier ones.
 fn item_is_lawful(earlier: &[Item], item: &Item) -> bool
     ensures { result ≡ grammar.item_is_lawful earlier.now item.now }
@@ -161,6 +199,12 @@ fn item_is_lawful(earlier: &[Item], item: &Item) -> bool
             of,
             e,
         } => map_is_lawful(earlier, name, variable, of, e),
+        Item::Filter {
+            name,
+            variable,
+            of,
+            test,
+        } => filter_is_lawful(earlier, name, variable, of, test),
         Item::Hold { name, first, of } => {
             is_name(name) && fits(*first) && !is_declared(name, earlier) && is_stream(of, earlier)
         }
