@@ -1,7 +1,7 @@
 -- What the program answers: a status, and what it writes.
 use Rattle.std.specs.Prelude.{◌≡◌, ◌<◌, ◌≤◌, ◌^◌, take, ◌==◌, ℕ, Bool, List, [], ◌∷◌, Option, Some, None, codes, length, ⊤}
 use Rattle.std.specs.List.{list_any}
-use Rattle.frp_io.specs.Outside.{Rose, Gave}
+use Rattle.frp_io.specs.Outside.{Rose, Took, Gave}
 use Rattle.frp_graph.specs.declared.trace.Moment.{Moment}
 use Rattle.frp_graph.specs.declared.history.Entry.{Entry}
 use Rattle.frp_graph.specs.Legal.{IsLegal}
@@ -34,15 +34,16 @@ IsNoFile bytes = (f : File) → IsFileOf bytes f → ⊥
 abbrev pub IsReplay : List (List ℕ) → Type 0
 IsReplay words = words ≡ codes "replay" ∷ []
 
--- where the source tells its bytes, they were read to their end, and this holds of them
+-- where the source tells its bytes, they were read to their end, are at most 1,048,576, and this holds of them
 abbrev pub IfRead : Option (List ℕ) → Option (List ℕ) → (List ℕ → Type 0) → Type 0
 IfRead None rest P = ⊤
-IfRead (Some bytes) rest P = (rest ≡ Some []) × P bytes
+IfRead (Some bytes) rest P = (rest ≡ Some []) × (length bytes ≤ 2 ^ 20) × P bytes
 
--- where the source tells its bytes, this holds of them
-abbrev pub IfTold : Option (List ℕ) → (List ℕ → Type 0) → Type 0
-IfTold None P = ⊤
-IfTold (Some bytes) P = P bytes
+-- the source gave more bytes than this
+pub record GaveMore (most : ℕ) (before after : Option (List ℕ)) : Type 0 where
+  pub bytes : List ℕ
+  pub taken : Took before after bytes
+  pub more : most < length bytes
 
 -- the status of a refusal, and its line
 abbrev pub refusal_status : Refusal → ℕ
@@ -78,10 +79,10 @@ is_status status = list_any (λ k. k == status) (0 ∷ 1 ∷ 2 ∷ 3 ∷ 4 ∷ 5
 -- the cause of a refusal: of the words, of what the source had left before and has left now, and of its counts of faults
 abbrev pub HasReason : List (List ℕ) → Option (List ℕ) → Option (List ℕ) → ℕ → ℕ → Refusal → Type 0
 HasReason words before after faults now r.NoFile = (IsReplay words) × (IfRead before after IsNoFile)
-HasReason words before after faults now r.Usage = IsReplay words → ⊥
+HasReason words before after faults now r.Usage = (IsReplay words → ⊥) × (after ≡ before)
 HasReason words before after faults now r.Read = (IsReplay words) × (Rose faults now)
 HasReason words before after faults now r.Memory = IsReplay words
-HasReason words before after faults now r.Size = (IsReplay words) × (IfTold before (λ bytes. 2 ^ 20 < length bytes))
+HasReason words before after faults now r.Size = (IsReplay words) × (GaveMore (2 ^ 20) before after)
 
 abbrev pub IsAnswer : List (List ℕ) → Option (List ℕ) → Option (List ℕ) → ℕ → ℕ → Answer → Type 0
 IsAnswer words before after faults now (a.Report text) = (IsReplay words) × (IfRead before after (λ bytes. IsReportOf bytes text))

@@ -2,7 +2,7 @@
 
 ghost use Rattle.std.specs.Prelude.{◌≡◌, ◌↔◌, IsTrue, IfOk, Err, ℕ, List, map, string_bytes, codes};
 ghost use Rattle.frp_io.specs.Outside.{Rose};
-ghost use Rattle.frp_run.specs.Answers.{IsReplay, IsReportOf, IsNoFile, IfRead, IfTold, IsAnswer, refusal_status, refusal_line, status_of, text_of, HasReason};
+ghost use Rattle.frp_run.specs.Answers.{IsReplay, IsReportOf, IsNoFile, IfRead, IsAnswer, refusal_status, refusal_line, status_of, text_of, HasReason};
 
 use crate::outside::{SourceStop, read_all};
 use crate::reader::{ReadStop, read};

@@ -2,7 +2,7 @@
 
 ghost use Rattle.std.specs.Prelude.{◌≡◌, ◌<◌, ◌≤◌, ◌+◌, length, take, drop, IfOk, OnOk, OnErr, Err};
 ghost use Rattle.frp_io.specs.Outside.{HasCause, Rose, Took, Ended, Gave};
-ghost use Rattle.frp_run.specs.Answers.{IfTold, GavePart};
+ghost use Rattle.frp_run.specs.Answers.{GaveMore, GavePart};
 
 use frp_io::{Failed, Sink, Source};
 use std::alloc::Global;
@@ -16,7 +16,7 @@ pub enum SourceStop {
 }
 
 /// All bytes of a source, of which there are at most `most`.
-#[tactic(auto, using(frp_io::proofs::Bytes::took_none, frp_io::proofs::Bytes::took_more, frp_io::proofs::Bytes::zero_ended, crate::proofs::Reading::took_longer))]
+#[tactic(auto, using(frp_io::proofs::Bytes::took_none, frp_io::proofs::Bytes::took_more, frp_io::proofs::Bytes::zero_ended))]
 pub fn read_all<S: Source>(
     alloc: Global,
     source: &mut S,
@@ -25,7 +25,8 @@ pub fn read_all<S: Source>(
     ensures bytes { IfOk result (λ v. Took (S.rest source.old) (S.rest source.new) v.items) }
     ensures end { IfOk result (λ v. Ended (S.rest source.new)) }
     ensures failed { result ≡ Err SourceStop.Failed → Rose (S.faults source.old) (S.faults source.new) }
-    ensures size { result ≡ Err SourceStop.Size → IfTold (S.rest source.old) (λ bytes. most < length bytes) }
+    ensures bound { IfOk result (λ v. length v.items ≤ most) }
+    ensures size { result ≡ Err SourceStop.Size → GaveMore most (S.rest source.old) (S.rest source.new) }
 {
     let mut all = Vec::new(alloc);
     let mut buf = [0u8; 4096];

@@ -2,7 +2,7 @@
 
 ghost use Rattle.std.specs.Prelude.{◌≡◌, ◌<◌, ◌^◌, ℕ, List, length, map, string_bytes, IsTrue, ◌⊎◌};
 ghost use Rattle.frp_io.specs.Outside.{Rose, Gave};
-ghost use Rattle.frp_run.specs.Answers.{IsReplay, IsReportOf, IsNoFile, IfRead, IfTold, IsLineOf, HasFile, AnswersPart, is_status};
+ghost use Rattle.frp_run.specs.Answers.{IsReplay, IsReportOf, IsNoFile, IfRead, GaveMore, IsLineOf, HasFile, AnswersPart, is_status};
 
 use crate::answer::answer_to;
 use crate::outside::write_all;
@@ -31,19 +31,20 @@ pub fn frp_plain<I: Source, O: Sink>(
     sink: &mut O,
 ) -> u8
     // At status 0, where source and sink tell: what is written is the report of a session of the input's file, whose history and trace are legal together, and
-    // the source was read to its end.
+    // the source was read to its end and had at most 1,048,576 bytes.
     ensures report { result ≡ 0 → IfRead (I.rest source.old) (I.rest source.new) (λ bytes.
         (text : List ℕ) × (IsReportOf bytes text × Gave (O.held sink.old) (O.held sink.new) text)) }
 
     // The refusals, with their causes and their lines.
     ensures no_file { result ≡ 1 → IfRead (I.rest source.old) (I.rest source.new) IsNoFile }
     ensures usage { result ≡ 2 → IsReplay (map string_bytes words.now) → ⊥ }
+    ensures unread { (IsReplay (map string_bytes words.now) → ⊥) → I.rest source.new ≡ I.rest source.old }
     ensures words { (IsReplay (map string_bytes words.now) → ⊥) → (result ≡ 2) ⊎ (result ≡ 4) }
     ensures read { result ≡ 3 → Rose (I.faults source.old) (I.faults source.new) }
     ensures write { result ≡ 4 → Rose (O.faults sink.old) (O.faults sink.new) }
     ensures part { result ≡ 4 → AnswersPart (map string_bytes words.now) (I.rest source.old) (I.rest source.new)
         (I.faults source.old) (I.faults source.new) (O.held sink.old) (O.held sink.new) }
-    ensures size { result ≡ 7 → IfTold (I.rest source.old) (λ bytes. 2 ^ 20 < length bytes) }
+    ensures size { result ≡ 7 → GaveMore (2 ^ 20) (I.rest source.old) (I.rest source.new) }
     ensures status { IsTrue (is_status result) }
     // A file is answered with its report, where nothing fails and memory is there.
     ensures complete { IsReplay (map string_bytes words.now) → HasFile (I.rest source.old)
