@@ -5,6 +5,7 @@ use std::process::Abort;
 
 /// Whole numbers of 64 bits: the first, the last, and some between.
 const FIRST: i64 = -9223372036854775808;
+
 const LAST: i64 = 9223372036854775807;
 
 /// Expressions on these values: 10, 20 and true.

@@ -1,8 +1,8 @@
 -- A file is answered with its report, where nothing fails and memory is there.
-use Rattle.std.proofs.Common.{◌≡◌, ℕ, ◌+◌, ◌<◌, ◌≤◌, ◌^◌, length, List, ◌++◌, Option, Some, None, refl, ap, ◌∙◌, subst, arith, inl, inr, length-append}
+use Rattle.std.proofs.Common.{◌≡◌, ℕ, ◌+◌, ◌≤◌, length, List, Option, Some, None, refl, ap, ◌∙◌, subst, arith, inl, inr, length-append}
 use Rattle.std.specs.Prelude.{◌⊎◌}
 use Rattle.frp_io.specs.Outside.{Rose, Took}
-use Rattle.frp_run.specs.Answers.{IsReplay, IfRead, GaveMore, IsNoFile, IsAnswer, HasReason, HasFile, refusal_status, status_of}
+use Rattle.frp_run.specs.Answers.{IsReplay, IfRead, IsNoFile, IsAnswer, HasReason, HasFile, refusal_status, status_of}
 use Rattle.frp_run.specs.declared.answer.Refusal.{Refusal}
 use Rattle.frp_run.specs.declared.answer.Refusal.TheVariants as r
 use Rattle.frp_run.specs.declared.answer.Answer.{Answer}

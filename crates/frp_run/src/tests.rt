@@ -208,7 +208,11 @@ fn expect_read_fault(
     let mut sink = MemSink::new(alloc, 4096, 4096, Vec::new(alloc))?;
     let got = frp_plain(alloc, words.as_slice(), &mut source, &mut sink);
     assert_eq!(rt; got, status, "chunk {chunk}, read {read}");
-    assert_eq!(rt; sink.bytes(), output.as_bytes(), "chunk {chunk}, read {read}");
+    assert_eq!(rt;
+        sink.bytes(),
+        output.as_bytes(),
+        "chunk {chunk}, read {read}"
+    );
     Ok(())
 }
 
@@ -251,7 +255,11 @@ fn expect_write_fault(
     let report = ADDS_REPORT.as_bytes();
     let front = &report[..held.min(report.len())];
     assert_eq!(rt; got, status, "chunk {chunk}, room {room}, write {write}");
-    assert_eq!(rt; sink.bytes(), front, "chunk {chunk}, room {room}, write {write}");
+    assert_eq!(rt;
+        sink.bytes(),
+        front,
+        "chunk {chunk}, room {room}, write {write}"
+    );
     Ok(())
 }
 

@@ -170,13 +170,7 @@ fn map_is_lawful(earlier: &[Item], name: &Text, variable: &Text, of: &Text, e: &
 }
 
 /// Whether a filter is lawful after these earlier items.
-fn filter_is_lawful(
-    earlier: &[Item],
-    name: &Text,
-    variable: &Text,
-    of: &Text,
-    test: &Test,
-) -> bool
+fn filter_is_lawful(earlier: &[Item], name: &Text, variable: &Text, of: &Text, test: &Test) -> bool
     ensures { result ≡ grammar.item_is_lawful earlier.now (Item.Filter name.now variable.now of.now test.now) }
 {
     is_name(name)

@@ -221,14 +221,23 @@ fn texts_of_many_levels(rt: HostRuntime) -> Result<(), Fail> {
     for head in ["add", "sub", "mul"] {
         for (count, is_inside) in [(16, true), (17, false)] {
             let num = levels(alloc, head, count)?;
-            assert!(rt; is_read(alloc, &with_num(alloc, &num)?)? == is_inside, "{num}");
+            assert!(rt;
+                is_read(alloc, &with_num(alloc, &num)?)? == is_inside,
+                "{num}"
+            );
         }
         for (count, is_inside) in [(15, true), (16, false)] {
             let num = levels(alloc, head, count)?;
             let left = format!(in alloc; "(lt {num} 1)")?;
-            assert!(rt; is_read(alloc, &with_test(alloc, &left)?)? == is_inside, "{left}");
+            assert!(rt;
+                is_read(alloc, &with_test(alloc, &left)?)? == is_inside,
+                "{left}"
+            );
             let right = format!(in alloc; "(lt 1 {num})")?;
-            assert!(rt; is_read(alloc, &with_test(alloc, &right)?)? == is_inside, "{right}");
+            assert!(rt;
+                is_read(alloc, &with_test(alloc, &right)?)? == is_inside,
+                "{right}"
+            );
         }
     }
     Ok(())
