@@ -4,7 +4,7 @@ use std::test::*;
 
 /// A text of a lawful file, with each part of the grammar.
 const SMALL: &str =
-    "(graph (sink a Int) (let b (map x a (add x 1))) (let c (hold -7 b))) (listen b) (sender (send a 5))";
+    "(graph (sink a Int) (let b (map x a (add x 1))) (let f (filter x b (lt x 9))) (let c (hold -7 f))) (listen b) (sender (send a 5))";
 
 /// Texts of lawful files.
 const INSIDE: [&str; 19] = [
@@ -205,6 +205,7 @@ fn reads_the_parts_of_a_file(rt: HostRuntime) -> Result<(), Fail> {
             [
                 Item::Sink { .. },
                 Item::Map { .. },
+                Item::Filter { .. },
                 Item::Hold { first: -7, .. }
             ]
         )
