@@ -1,0 +1,10 @@
+pub mod Tests
+pub mod TypeLemmas
+pub mod NumberLemmas
+pub mod ValueLemmas
+pub mod TypedValues
+pub mod Outcomes
+pub mod TypingAgrees
+pub mod Places
+pub mod Answering
+pub mod ValuesStay

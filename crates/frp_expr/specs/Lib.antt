@@ -1,0 +1,13 @@
+pub mod Parts
+pub mod Operators
+pub mod Eval
+pub mod Types
+pub mod Typing
+pub mod Values
+pub mod Scope
+pub mod Raw
+pub mod Gives
+pub mod Forms
+pub mod Laws
+pub mod Uses
+pub mod TypeOf
