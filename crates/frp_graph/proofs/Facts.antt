@@ -11,7 +11,7 @@ use Rattle.frp_base.specs.Time.{time_cmp}
 use Rattle.frp_base.specs.Name.{name_cmp}
 use Rattle.frp_graph.specs.declared.trace.Fact.{Fact}
 use Rattle.frp_graph.specs.declared.trace.Moment.{Moment}
-use Rattle.frp_graph.specs.declared.trace.Prog.{Prog}
+use Rattle.frp_graph.specs.declared.prog.Prog.{Prog}
 use Rattle.frp_graph.specs.Equations.{Sent}
 use Rattle.frp_graph.specs.Moments.{IsMoment, AtEach}
 use Rattle.frp_graph.specs.Laws.{IsFact, Occurs}

@@ -1,3 +1,4 @@
 pub mod Order
 pub mod Each
 pub mod Facts
+pub mod ValueLaws

@@ -8,12 +8,13 @@ use Rattle.frp_base.specs.declared.val.Val.TheOpen.{Val-F}
 use Rattle.frp_base.specs.declared.val.Val.TheOpen as o
 use Rattle.frp_base.specs.Time.{time_eq, time_cmp, parent_and_number}
 use Rattle.frp_base.specs.Name.{name_eq, birth}
+use Rattle.frp_expr.specs.Parts.{bool_in, items_in}
 use Rattle.frp_graph.specs.declared.trace.Node.{Node}
-use Rattle.frp_graph.specs.declared.trace.Prog.{Prog}
+use Rattle.frp_graph.specs.declared.prog.Prog.{Prog}
 use Rattle.frp_graph.specs.declared.shape.Shape.{Shape}
 use Rattle.frp_graph.specs.declared.shape.Shape.TheVariants.{Sink, Never, Constant, Map, Filter, Merge, Snapshot, Split, Updates, Value, Loop, Hold, Mapc, Apply, Switchs, Switchc, Execute}
 use Rattle.frp_graph.specs.Trace.{Sight, post_in}
-use Rattle.frp_graph.specs.Eval.{call}
+use Rattle.frp_graph.specs.Applied.{call, applied}
 
 -- what was sent: the place of the send in the history, the sink, and the value
 pub record Sent : Type 0 where
@@ -26,15 +27,7 @@ abbrev pub sent_in : List Sent → Time → Name → Option Val
 sent_in [] t n = None
 sent_in (s ∷ ss) t n = if time_eq t (s.place ∷ []) && name_eq s.sink n then Some s.value else sent_in ss t n
 
--- what a value holds: a truth, items, the node that it refers to (no node has the empty name)
-abbrev pub bool_in : Val-F Val → Bool
-bool_in (o.Bool b) = b
-bool_in _ = false
-
-abbrev pub items_in : Val-F Val → List Val
-items_in (o.List xs) = xs
-items_in _ = []
-
+-- the node that a value refers to (no node has the empty name)
 abbrev pub name_in : Val-F Val → Name
 name_in (o.Stream n) = n
 name_in (o.Cell n) = n
@@ -63,11 +56,7 @@ abbrev pub split_item : Sight → Name → Time → Option (Time × ℕ) → Opt
 split_item w s b None = None
 split_item w s b (Some p) = if is_gt (time_cmp b p.0) then None else option_and_then (λ v. slice_get (items_in (out-Val v)) p.1) (w.above s)
 
--- Here a function value is applied, and here an instance of a template gives its result: no program has functions or
--- templates yet, so neither gives anything.
-abbrev pub applied : Prog → Val → Val → Option Val
-applied prog f a = None
-
+-- Here an instance of a template gives its result: no program has templates yet, so none gives anything.
 abbrev pub instance_result : Prog → Sight → Node → ℕ → List Val → Val → Option Val
 instance_result prog w x template kept a = None
 

@@ -1,12 +1,12 @@
 -- The first value that a cell has at its birth, by its shape. A stream has none.
 use Rattle.std.specs.Prelude.{◌≡◌, List, [], ◌∷◌, None, IsSome, option_map, option_and_then}
 use Rattle.frp_graph.specs.declared.trace.Node.{Node}
-use Rattle.frp_graph.specs.declared.trace.Prog.{Prog}
+use Rattle.frp_graph.specs.declared.prog.Prog.{Prog}
 use Rattle.frp_graph.specs.declared.shape.Shape.{Shape}
 use Rattle.frp_graph.specs.declared.shape.Shape.TheVariants.{Constant, Hold, Mapc, Apply, Switchc, Loop}
 use Rattle.frp_graph.specs.Trace.{Sight, first_of, node_in}
-use Rattle.frp_graph.specs.Eval.{call}
-use Rattle.frp_graph.specs.Equations.{applied, target}
+use Rattle.frp_graph.specs.Applied.{call, applied}
+use Rattle.frp_graph.specs.Equations.{target}
 
 -- a node of this shape, born at the time of the sight among these live nodes, has its first value
 abbrev pub HasFirst : Prog → List Node → Sight → Node → Shape → Type 0

@@ -1,5 +1,6 @@
 pub mod Trace
-pub mod Eval
+pub mod Applied
+pub mod Values
 pub mod Equations
 pub mod FirstValues
 pub mod Moments

@@ -7,13 +7,14 @@ use Rattle.frp_base.specs.declared.time.Time.{Time}
 use Rattle.frp_base.specs.declared.val.Val.{Val, out-Val}
 use Rattle.frp_base.specs.Time.{time_eq, time_cmp, parent_and_number}
 use Rattle.frp_base.specs.Name.{name_cmp}
+use Rattle.frp_expr.specs.Parts.{items_in}
 use Rattle.frp_graph.specs.declared.trace.Node.{Node}
 use Rattle.frp_graph.specs.declared.trace.Moment.{Moment}
-use Rattle.frp_graph.specs.declared.trace.Prog.{Prog}
+use Rattle.frp_graph.specs.declared.prog.Prog.{Prog}
 use Rattle.frp_graph.specs.declared.shape.Shape.{Shape}
 use Rattle.frp_graph.specs.declared.shape.Shape.TheVariants.{Split}
 use Rattle.frp_graph.specs.Trace.{live, moment_at, occ, node_in, sight_of}
-use Rattle.frp_graph.specs.Equations.{Sent, items_in, MeetsEquation}
+use Rattle.frp_graph.specs.Equations.{Sent, MeetsEquation}
 use Rattle.frp_graph.specs.FirstValues.{HasFirst}
 
 -- the time of the build

@@ -1,4 +1,4 @@
-ghost use Rattle.frp_graph.specs.Laws.{OneOccurrence, BeforeIsStrict, EarlierMomentsStay};
+ghost use Rattle.frp_graph.specs.Laws.{OneOccurrence, BeforeIsStrict, EarlierMomentsStay, ValuesStay, EvalIsTyped};
 
 /// In a trace that meets the equations, a node has at most one occurrence at a time.
 pub fn one_occurrence()
@@ -14,4 +14,15 @@ pub fn before_is_strict()
 /// the earlier ones as they were.
 pub fn earlier_moments_stay()
     ensures { EarlierMomentsStay }
+{}
+
+/// A value of a type among some nodes is one where more nodes come after them.
+pub fn values_stay()
+    ensures { ValuesStay }
+{}
+
+/// An expression of a type, over values of the types of its variables among some nodes, has a value of its type among
+/// them.
+pub fn eval_is_typed()
+    ensures { EvalIsTyped }
 {}

@@ -1,19 +1,20 @@
 //! Graphs, traces and histories, and the definitions that they are held to (in `specs/`).
 #![tactic(auto)]
 
-mod eval;
-mod expr;
 mod history;
 mod laws;
+mod prog;
 mod shape;
 mod trace;
 
-pub use eval::value_of;
-pub use expr::Expr;
+pub use frp_expr::Expr;
 pub use history::{Cmd, Delivered, Entry, Key, Reply};
-pub use laws::{before_is_strict, earlier_moments_stay, one_occurrence};
+pub use laws::{
+    before_is_strict, earlier_moments_stay, eval_is_typed, one_occurrence, values_stay,
+};
+pub use prog::{FunDef, Prog};
 pub use shape::{Lam, Shape};
-pub use trace::{Fact, Moment, Node, Prog};
+pub use trace::{Fact, Moment, Node};
 
 #[cfg(test)]
 mod tests;

@@ -1,4 +1,3 @@
-use crate::expr::Expr;
 use crate::shape::Shape;
 use frp_base::{Name, Seq, Time, Ty, Val};
 
@@ -24,11 +23,4 @@ pub struct Moment {
     pub time: Time,
     pub born: Seq<Node>,
     pub fired: Seq<Fact>,
-}
-
-/// A program: its expressions, by number from 0, and the nodes of its file in the order of the items.
-#[derive(Drop)]
-pub struct Prog {
-    pub codes: Seq<Expr>,
-    pub nodes: Seq<Node>,
 }

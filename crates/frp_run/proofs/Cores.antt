@@ -5,7 +5,7 @@ use Rattle.std.specs.List.{AllByRecursion}
 use Rattle.std.proofs.lemmas.Bool.Decides.{nat_tests}
 use Rattle.frp_base.specs.declared.name.Name.{Name}
 use Rattle.frp_base.specs.Time.{time_eq}
-use Rattle.frp_graph.specs.declared.expr.Expr.{Expr}
+use Rattle.frp_expr.specs.declared.expr.Expr.{Expr}
 use Rattle.frp_graph.specs.declared.trace.Node.{Node}
 use Rattle.frp_graph.specs.declared.trace.Fact.{Fact}
 use Rattle.frp_graph.specs.declared.trace.Moment.{Moment}
@@ -156,7 +156,7 @@ module _ (c : Core) (core : IsCore c) where
         (λ n. sent_last (sends_of c.entries) s (here ∷ []) n sends_here)
         facts.settled (sym not_build) live_stays
 
-    same_program : record { codes = c.codes; nodes = live (c.trace ++ m ∷ []) } ≡ program c
+    same_program : record { codes = c.codes; funs = []; nodes = live (c.trace ++ m ∷ []) } ≡ program c
     same_program = ap (λ ns. program_of c.codes ns) live_stays
 
     none_here : filter (λ k. is_of here k.time) c.trace ≡ []

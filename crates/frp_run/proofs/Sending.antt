@@ -6,7 +6,7 @@ use Rattle.std.proofs.lemmas.List.{take_more}
 use Rattle.std.proofs.lemmas.Bool.Decides.{nat_tests}
 use Rattle.frp_base.specs.declared.name.Name.{Name}
 use Rattle.frp_graph.specs.declared.trace.Fact.{Fact}
-use Rattle.frp_graph.specs.declared.trace.Prog.{Prog}
+use Rattle.frp_graph.specs.declared.prog.Prog.{Prog}
 use Rattle.frp_graph.specs.declared.history.Key.{Key}
 use Rattle.frp_graph.specs.declared.history.Delivered.{Delivered}
 use Rattle.frp_graph.specs.declared.history.Cmd.{Cmd}

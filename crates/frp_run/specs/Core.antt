@@ -2,7 +2,7 @@
 use Rattle.std.specs.Prelude.{◌≡◌, ℕ, List, [], ◌∷◌, ◌++◌, map, slice_get, IsSomeAnd, ⊤}
 use Rattle.std.specs.List.{AllByRecursion}
 use Rattle.frp_base.specs.declared.time.Time.{Time}
-use Rattle.frp_graph.specs.declared.trace.Prog.{Prog}
+use Rattle.frp_graph.specs.declared.prog.Prog.{Prog}
 use Rattle.frp_graph.specs.declared.history.Reply.{Reply}
 use Rattle.frp_graph.specs.declared.history.Reply.TheVariants.{Joined, Left}
 use Rattle.frp_graph.specs.declared.history.Cmd.TheVariants.{Leave}
@@ -18,7 +18,7 @@ use Rattle.frp_run.specs.declared.machine.Core.{Core}
 
 -- the program: the core's expressions, and the nodes that were born
 abbrev pub program : Core → Prog
-program c = record { codes = c.codes; nodes = live c.trace }
+program c = record { codes = c.codes; funs = []; nodes = live c.trace }
 
 -- the build, and the place of each accepted send
 abbrev pub times_of : List Entry → List Time

@@ -3,16 +3,16 @@ use Rattle.std.specs.Prelude.{◌≡◌, ℕ, List, [], ◌∷◌, Option, Some,
 use Rattle.frp_base.specs.declared.name.Name.{Name}
 use Rattle.frp_base.specs.declared.val.Val.{Val}
 use Rattle.frp_base.specs.Name.{item_of}
-use Rattle.frp_graph.specs.declared.expr.Expr.{Expr}
+use Rattle.frp_expr.specs.declared.expr.Expr.{Expr}
 use Rattle.frp_graph.specs.declared.trace.Node.{Node}
 use Rattle.frp_graph.specs.declared.trace.Fact.{Fact}
-use Rattle.frp_graph.specs.declared.trace.Prog.{Prog}
+use Rattle.frp_graph.specs.declared.prog.Prog.{Prog}
 use Rattle.frp_graph.specs.Trace.{Sight}
 use Rattle.frp_graph.specs.Equations.{Sent, row}
 
 -- the program of these expressions and nodes
 abbrev pub program_of : List Expr → List Node → Prog
-program_of codes nodes = record { codes = codes; nodes = nodes }
+program_of codes nodes = record { codes = codes; funs = []; nodes = nodes }
 
 -- the send at a place, where there is one
 abbrev pub sends_at : ℕ → Option Fact → List Sent

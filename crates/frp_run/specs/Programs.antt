@@ -4,11 +4,11 @@ use Rattle.frp_base.specs.declared.name.Name.{Name}
 use Rattle.frp_base.specs.declared.ty.Ty.TheVariants as t
 use Rattle.frp_base.specs.declared.val.Val.TheVariants as v
 use Rattle.frp_base.specs.Name.{declared_name}
-use Rattle.frp_graph.specs.declared.expr.Expr.{Expr}
-use Rattle.frp_graph.specs.declared.expr.Expr.TheVariants as e
+use Rattle.frp_expr.specs.declared.expr.Expr.{Expr}
+use Rattle.frp_expr.specs.declared.expr.Expr.TheVariants as e
 use Rattle.frp_graph.specs.declared.trace.Node.{Node}
 use Rattle.frp_graph.specs.declared.trace.Fact.{Fact}
-use Rattle.frp_graph.specs.declared.trace.Prog.{Prog}
+use Rattle.frp_graph.specs.declared.prog.Prog.{Prog}
 use Rattle.frp_graph.specs.declared.shape.Shape.TheVariants as s
 use Rattle.frp_run.specs.declared.file.File.{File}
 use Rattle.frp_run.specs.declared.file.Item.{Item}
@@ -66,7 +66,7 @@ nodes_from earlier [] = []
 nodes_from earlier (i ∷ is) = node_of earlier i ∷ nodes_from (earlier ++ i ∷ []) is
 
 abbrev pub prog_of : File → Prog
-prog_of f = record { codes = codes_of f.items; nodes = nodes_from [] f.items }
+prog_of f = record { codes = codes_of f.items; funs = []; nodes = nodes_from [] f.items }
 
 abbrev pub listens_of : File → List Name
 listens_of f = listened f.items f.listen where

@@ -3,14 +3,16 @@
 ghost use Rattle.std.specs.Prelude.{◌≡◌, ◌<◌, [], ◌∷◌, IfOk, List, Some, length};
 ghost use Rattle.std.specs.Option.{option_copied};
 ghost use Rattle.frp_graph.specs.declared.trace.Node.{Node};
-ghost use Rattle.frp_graph.specs.Eval.{code_on};
+ghost use Rattle.frp_graph.specs.Applied.{code_on};
 ghost use Rattle.frp_base.specs.declared.val.Val.{out-Val};
-ghost use Rattle.frp_graph.specs.Equations.{row, sent_in, keep_if, bool_in};
+ghost use Rattle.frp_graph.specs.Equations.{row, sent_in, keep_if};
+ghost use Rattle.frp_expr.specs.Parts.{bool_in};
 ghost use Rattle.frp_run.specs.Small.{AreSmallFrom, IsSmall};
 ghost use Rattle.frp_run.specs.Engine.{occ_at, sends_at, sees, AreSettled, facts_of, AreFacts, program_of};
 
 use frp_base::{Memory, Name, Seq, Val};
-use frp_graph::{Expr, Fact, Lam, Node, Shape, value_of};
+use frp_expr::eval;
+use frp_graph::{Expr, Fact, Lam, Node, Shape};
 use std::alloc::Global;
 
 /// The facts of the moment at the time of `place`, where this is sent.
@@ -136,8 +138,8 @@ fn applied(alloc: Global, codes: &[Expr], f: &Lam, argument: &Val) -> Result<Val
     }
     values.add(argument.copy(alloc)?)?;
     match codes.get(f.code as usize) {
-        Some(e) => value_of(alloc, e, values.as_slice()),
-        None => value_of(alloc, &Expr::Int(0), values.as_slice()),
+        Some(e) => eval(alloc, e, values.as_slice()),
+        None => eval(alloc, &Expr::Int(0), values.as_slice()),
     }
 }
 

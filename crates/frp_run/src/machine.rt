@@ -25,12 +25,17 @@ impl Core {
 
     /// The core of a program after its build.
     pub fn build(alloc: Global, prog: Prog) -> Result<Core, Memory>
-        requires { AreSmallFrom 0 prog.nodes }
+        requires small { AreSmallFrom 0 prog.nodes }
+        requires funs { prog.funs ≡ [] }
         ensures core { IfOk result (λ c. IsCore c) }
         ensures same { IfOk result (λ c. program c ≡ prog) }
         ensures empty { IfOk result (λ c. c.entries ≡ []) }
     {
-        let Prog { codes, nodes } = prog;
+        let Prog {
+            codes,
+            funs: _,
+            nodes,
+        } = prog;
         let fired = settle(alloc, codes.as_slice(), nodes.as_slice(), 0, None)?;
         let mut trace = Seq::new(alloc);
         trace.add(Moment {

@@ -16,6 +16,7 @@ pub fn program(alloc: Global, file: &File) -> Result<Prog, Memory>
     let items = file.items.as_slice();
     Ok(Prog {
         codes: codes(alloc, items)?,
+        funs: Seq::new(alloc),
         nodes: nodes(alloc, items)?,
     })
 }

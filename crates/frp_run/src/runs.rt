@@ -22,6 +22,7 @@ use std::alloc::Global;
 /// sends of the script.
 pub fn run(alloc: Global, prog: Prog, listen: Option<Name>, script: &[Fact]) -> Result<Core, Memory>
     requires small { AreSmallFrom 0 prog.nodes }
+    requires funs { prog.funs ≡ [] }
     requires listens { AllByRecursion (λ n. IsSome (node_in prog.nodes n)) (option_to_list listen) }
     requires sends { AllByRecursion (λ f. IsTrue (is_sink (node_in prog.nodes f.node))) script.now }
     ensures core { IfOk result (λ c. IsCore c) }

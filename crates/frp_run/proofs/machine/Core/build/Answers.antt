@@ -10,4 +10,4 @@ returns-clause-core c =
     transport (λ i. AreFacts (program_of (c.as_slice.ensures i) (c.as_slice-2.ensures i)) 0 None c.in_ok-fired.fired) c.in_ok-fired.ensures in
     let trace : c.add.new.self ≡ record { time = 0 ∷ []; born = c.args.prog.nodes; fired = c.in_ok-fired.fired } ∷ [] =
     c.in_ok-add.ensures.ok ∙ (λ i. c.new-trace.ensures i ++ record { time = c.top.ensures i; born = c.args.prog.nodes; fired = c.in_ok-fired.fired } ∷ []) in
-    build_core c.args.prog.codes c.args.prog.nodes c.in_ok-fired.fired c.requires facts c.new.result c.add.new.self c.new.ensures trace
+    build_core c.args.prog.codes c.args.prog.nodes c.in_ok-fired.fired c.requires.small facts c.new.result c.add.new.self c.new.ensures trace
