@@ -1,23 +1,24 @@
 -- What is spelled so is read.
-use Rattle.std.proofs.Common.{◌≡◌, ℕ, zero, suc, ◌+◌, ◌<◌, ◌≤◌, Bool, true, false, List, [], ◌∷◌, ◌++◌, length, map, Option, Some, None, refl, sym, ap, subst, ◌∙◌, append_assoc, arith, rules}
-use Rattle.std.specs.Prelude.{ℤ, max, codes}
+use Rattle.std.proofs.Common.{◌≡◌, ℕ, zero, suc, ◌<◌, ◌≤◌, true, false, List, [], ◌∷◌, ◌++◌, length, map, Option, Some, None, refl, sym, ap, subst, ◌∙◌, append_assoc, arith}
+use Rattle.std.specs.Prelude.{ℤ, ◌==◌, codes}
 use Rattle.std.specs.List.{list_all, AllByRecursion}
 use Rattle.std.specs.Fmt.{signed_decimal}
 use Rattle.std.proofs.lemmas.List.{append-nil}
-use Rattle.frp_run.specs.File.{num_text, parts_text, test_text, item_text, send_text, spaced, listen_text, sender_text, file_text, begins_lower, is_name, fits, depth, depth_of, test_depth, is_over, is_over_step, test_is_over}
-use Rattle.frp_run.specs.Reading.{Outcome, after, is_in_word, atom_at, made, parts_at, form_at, num_by, num_at, test_at, sink_at, map_at, filter_at, hold_at, let_at, item_at, send_at, list_at, listen_at, sender_at, file_at}
+use Rattle.frp_expr.specs.Forms.{form_of}
+use Rattle.frp_expr.specs.declared.raw.Raw.{Raw, out-Raw}
+use Rattle.frp_expr.specs.declared.raw.RawForm.{RawForm, RawForm-F, roll-RawForm}
+use Rattle.frp_expr.specs.declared.raw.RawForm.TheOpen as o
+use Rattle.frp_expr.specs.declared.raw.RawForm.TheVariants as n
+use Rattle.frp_run.specs.File.{raw_text, parts_text, item_text, send_text, spaced, listen_text, sender_text, file_text, begins_lower, is_name, fits, depth, is_over, is_test_form, is_test_over}
+use Rattle.frp_run.specs.Reading.{Outcome, after, is_in_word, placed, atom_at, made, parts_at, form_at, num_by, num_at, test_at, sink_at, map_at, filter_at, hold_at, let_at, item_at, send_at, list_at, listen_at, sender_at, file_at}
 use Rattle.frp_run.specs.declared.file.File.{File}
 use Rattle.frp_run.specs.declared.file.Item.{Item}
 use Rattle.frp_run.specs.declared.file.Item.TheVariants.{Sink, Map, Filter, Hold}
-use Rattle.frp_run.specs.declared.file.Num.{Num, Num-F, roll-Num, out-Num, roll-out-Num, map-Num, fold-roll-Num}
-use Rattle.frp_run.specs.declared.file.Num.TheOpen as o
-use Rattle.frp_run.specs.declared.file.Num.TheVariants as n
 use Rattle.frp_run.specs.declared.reader.forms.Operation.{Operation}
 use Rattle.frp_run.specs.declared.reader.forms.Operation.TheVariants as op
-use Rattle.frp_run.specs.declared.file.Test.{Test}
 use Rattle.frp_run.specs.declared.file.Sending.{Sending}
 use Rattle.frp_run.proofs.FileWords.{both_true, text_is, after_again, after_other, word_again, number_again, number_at_again, number_in_word, number_not_empty, name_is_no_number, name_begins, name_in_word}
-use Rattle.frp_run.proofs.FileSpelled.{text_step}
+use Rattle.frp_run.proofs.FileForms.{text_layer, text_opens, depth_layer, depth_opens, has_depth, over_layer, over_opens, at_zero}
 
 -- no form begins with a word
 no_form : (head w : List ℕ) (c : ℕ) (rest : List ℕ) → list_all is_in_word w ≡ true → 0 < length w → after (40 ∷ head) (w ++ c ∷ rest) ≡ None
@@ -29,63 +30,45 @@ not_empty [] h = absurd cc
 not_empty (b ∷ w) h = omega arith
 
 -- what is read of these bytes, by their first literal
-abbrev Num_read : (List ℕ → Outcome Num) → List ℕ → Outcome Num
-Num_read sub bytes = num_by sub bytes (after (codes "(add ") bytes) (after (codes "(sub ") bytes) (after (codes "(mul ") bytes)
+abbrev Form_read : (List ℕ → Outcome Raw) → List ℕ → Outcome Raw
+Form_read sub bytes = num_by sub bytes (after (codes "(add ") bytes) (after (codes "(sub ") bytes) (after (codes "(mul ") bytes)
 
-word_read : (sub : List ℕ → Outcome Num) (w : List ℕ) (c : ℕ) (rest : List ℕ) → list_all is_in_word w ≡ true → 0 < length w → Num_read sub (w ++ c ∷ rest) ≡ atom_at (w ++ c ∷ rest)
+word_read : (sub : List ℕ → Outcome Raw) (w : List ℕ) (c : ℕ) (rest : List ℕ) → list_all is_in_word w ≡ true → 0 < length w → Form_read sub (w ++ c ∷ rest) ≡ atom_at (w ++ c ∷ rest)
 word_read sub w c rest h k = rw (no_form (codes "add ") w c rest h k, no_form (codes "sub ") w c rest h k, no_form (codes "mul ") w c rest h k) refl
 
-int_again : (sub : List ℕ → Outcome Num) (z : ℤ) (c : ℕ) (rest : List ℕ) → fits z ≡ true → is_in_word c ≡ false
-    → Num_read sub (signed_decimal z ++ c ∷ rest) ≡ Some (n.Int z, c ∷ rest)
+int_again : (sub : List ℕ → Outcome Raw) (z : ℤ) (c : ℕ) (rest : List ℕ) → fits z ≡ true → is_in_word c ≡ false
+    → Form_read sub (signed_decimal z ++ c ∷ rest) ≡ Some (placed (n.Int z), c ∷ rest)
 unfolding atom_at
 int_again sub z c rest f k =
     word_read sub (signed_decimal z) c rest (number_in_word z f) (number_not_empty z f) ∙ rw (word_again (signed_decimal z) c rest (number_in_word z f) k, number_again z f) refl
 
-variable_again : (sub : List ℕ → Outcome Num) (y : List ℕ) (c : ℕ) (rest : List ℕ) → is_name y ≡ true → is_in_word c ≡ false
-    → Num_read sub (y ++ c ∷ rest) ≡ Some (n.Variable y, c ∷ rest)
+name_again : (sub : List ℕ → Outcome Raw) (y : List ℕ) (c : ℕ) (rest : List ℕ) → is_name y ≡ true → is_in_word c ≡ false
+    → Form_read sub (y ++ c ∷ rest) ≡ Some (placed (n.Name y), c ∷ rest)
 unfolding atom_at
-variable_again sub y c rest f k =
+name_again sub y c rest f k =
     word_read sub y c rest (name_in_word y f) (not_empty y (name_begins y f)) ∙ rw (word_again y c rest (name_in_word y f) k, name_is_no_number y (name_begins y f)) refl
 
-parts_again : (sub : List ℕ → Outcome Num) (a b : Num) (rest : List ℕ)
-    → sub (num_text a ++ (codes " " ++ (num_text b ++ (codes ")" ++ rest)))) ≡ Some (a, codes " " ++ (num_text b ++ (codes ")" ++ rest)))
-    → sub (num_text b ++ (codes ")" ++ rest)) ≡ Some (b, codes ")" ++ rest)
-    → parts_at sub (num_text a ++ (codes " " ++ (num_text b ++ (codes ")" ++ rest)))) ≡ Some ((a, b), rest)
+parts_again : (sub : List ℕ → Outcome Raw) (a b : Raw) (rest : List ℕ)
+    → sub (raw_text a ++ (codes " " ++ (raw_text b ++ (codes ")" ++ rest)))) ≡ Some (a, codes " " ++ (raw_text b ++ (codes ")" ++ rest)))
+    → sub (raw_text b ++ (codes ")" ++ rest)) ≡ Some (b, codes ")" ++ rest)
+    → parts_at sub (raw_text a ++ (codes " " ++ (raw_text b ++ (codes ")" ++ rest)))) ≡ Some ((a, b), rest)
 unfolding parts_at
-parts_again sub a b rest p q = rw (p, after_again (codes " ") (num_text b ++ (codes ")" ++ rest)), q, after_again (codes ")") rest) refl
+parts_again sub a b rest p q = rw (p, after_again (codes " ") (raw_text b ++ (codes ")" ++ rest)), q, after_again (codes ")") rest) refl
 
 parts_apart : (a b rest : List ℕ) → parts_text a b ++ rest ≡ a ++ (codes " " ++ (b ++ (codes ")" ++ rest)))
 parts_apart a b rest = simp append_assoc
 
-abbrev Again : ℕ → List ℕ → Num → Type 0
-Again room v x = (c : ℕ) (rest : List ℕ) → is_in_word c ≡ false → is_over v x ≡ true → depth x ≤ room → num_at room (num_text x ++ c ∷ rest) ≡ Some (x, c ∷ rest)
-
-over_step : (v : List ℕ) (l : Num-F Num) → is_over v (roll-Num l) ≡ is_over_step v (map-Num Num Bool (is_over v) l)
-over_step v l = search (rules, fold-roll-Num)
-
-depth_step : (l : Num-F Num) → depth (roll-Num l) ≡ depth_of (map-Num Num ℕ depth l)
-depth_step l = search (rules, fold-roll-Num)
-
-depth_positive : (l : Num-F ℕ) → 1 ≤ depth_of l
-depth_positive (o.Int z) = omega arith
-depth_positive (o.Variable x) = omega arith
-depth_positive (o.Add a b) = omega arith
-depth_positive (o.Sub a b) = omega arith
-depth_positive (o.Mul a b) = omega arith
-
-has_depth : (x : Num) → 1 ≤ depth x
-has_depth x =
-    let e : depth (roll-Num (out-Num x)) ≡ depth x = ap depth (roll-out-Num x) in
-    rw (← e, depth_step (out-Num x)) (depth_positive (map-Num Num ℕ depth (out-Num x)))
+abbrev Again : ℕ → List ℕ → Raw → Type 0
+Again room v x = (c : ℕ) (rest : List ℕ) → is_in_word c ≡ false → is_over v x ≡ true → depth x ≤ room → num_at room (raw_text x ++ c ∷ rest) ≡ Some (x, c ∷ rest)
 
 -- the two parts of a form are read
-abbrev TwoAgain : ℕ → List ℕ → Num → Num → Type 0
-TwoAgain room v a b = (c : ℕ) (rest : List ℕ) → parts_at (num_at room) (parts_text (num_text a) (num_text b) ++ c ∷ rest) ≡ Some ((a, b), c ∷ rest)
+abbrev TwoAgain : ℕ → List ℕ → Raw → Raw → Type 0
+TwoAgain room v a b = (c : ℕ) (rest : List ℕ) → parts_at (num_at room) (parts_text (raw_text a) (raw_text b) ++ c ∷ rest) ≡ Some ((a, b), c ∷ rest)
 
-two_again : (room : ℕ) (v : List ℕ) (a b : Num) → Again room v a → Again room v b → is_over v a ≡ true → is_over v b ≡ true → depth a ≤ room → depth b ≤ room → TwoAgain room v a b
+two_again : (room : ℕ) (v : List ℕ) (a b : Raw) → Again room v a → Again room v b → is_over v a ≡ true → is_over v b ≡ true → depth a ≤ room → depth b ≤ room → TwoAgain room v a b
 two_again room v a b h k over_a over_b da db = λ c rest.
-    ap (parts_at (num_at room)) (parts_apart (num_text a) (num_text b) (c ∷ rest))
-    ∙ parts_again (num_at room) a b (c ∷ rest) (h 32 (num_text b ++ (codes ")" ++ c ∷ rest)) refl over_a da) (k 41 (c ∷ rest) refl over_b db)
+    ap (parts_at (num_at room)) (parts_apart (raw_text a) (raw_text b) (c ∷ rest))
+    ∙ parts_again (num_at room) a b (c ∷ rest) (h 32 (raw_text b ++ (codes ")" ++ c ∷ rest)) refl over_a da) (k 41 (c ∷ rest) refl over_b db)
 
 -- each head is read as no other
 sub_no_add : (bs : List ℕ) → after (codes "(add ") (codes "(sub " ++ bs) ≡ None
@@ -100,87 +83,105 @@ mul_no_sub : (bs : List ℕ) → after (codes "(sub ") (codes "(mul " ++ bs) ≡
 unfolding after
 mul_no_sub bs = refl
 
-add_read : (sub : List ℕ → Outcome Num) (bs : List ℕ) → Num_read sub (codes "(add " ++ bs) ≡ form_at sub op.Add bs
+add_read : (sub : List ℕ → Outcome Raw) (bs : List ℕ) → Form_read sub (codes "(add " ++ bs) ≡ form_at sub op.Add bs
 add_read sub bs = rw (after_again (codes "(add ") bs) refl
 
-sub_read : (sub : List ℕ → Outcome Num) (bs : List ℕ) → Num_read sub (codes "(sub " ++ bs) ≡ form_at sub op.Sub bs
+sub_read : (sub : List ℕ → Outcome Raw) (bs : List ℕ) → Form_read sub (codes "(sub " ++ bs) ≡ form_at sub op.Sub bs
 sub_read sub bs = rw (sub_no_add bs, after_again (codes "(sub ") bs) refl
 
-mul_read : (sub : List ℕ → Outcome Num) (bs : List ℕ) → Num_read sub (codes "(mul " ++ bs) ≡ form_at sub op.Mul bs
+mul_read : (sub : List ℕ → Outcome Raw) (bs : List ℕ) → Form_read sub (codes "(mul " ++ bs) ≡ form_at sub op.Mul bs
 mul_read sub bs = rw (mul_no_add bs, mul_no_sub bs, after_again (codes "(mul ") bs) refl
 
-form_again : (room : ℕ) (v : List ℕ) (f : Operation) (head : List ℕ) (a b : Num) → ((bs : List ℕ) → Num_read (num_at room) (head ++ bs) ≡ form_at (num_at room) f bs)
-    → TwoAgain room v a b → (c : ℕ) (rest : List ℕ) → num_at (suc room) ((head ++ parts_text (num_text a) (num_text b)) ++ c ∷ rest) ≡ Some (made f a b, c ∷ rest)
+form_again : (room : ℕ) (v : List ℕ) (f : Operation) (head : List ℕ) (a b : Raw) → ((bs : List ℕ) → Form_read (num_at room) (head ++ bs) ≡ form_at (num_at room) f bs)
+    → TwoAgain room v a b → (c : ℕ) (rest : List ℕ) → num_at (suc room) ((head ++ parts_text (raw_text a) (raw_text b)) ++ c ∷ rest) ≡ Some (made f a b, c ∷ rest)
 unfolding num_at form_at
 form_again room v f head a b read two c rest =
-    ap (Num_read (num_at room)) (append_assoc head (parts_text (num_text a) (num_text b)) (c ∷ rest)) ∙ read (parts_text (num_text a) (num_text b) ++ c ∷ rest) ∙ rw (two c rest) refl
+    ap (Form_read (num_at room)) (append_assoc head (parts_text (raw_text a) (raw_text b)) (c ∷ rest)) ∙ read (parts_text (raw_text a) (raw_text b) ++ c ∷ rest) ∙ rw (two c rest) refl
 
-layer_again : (room : ℕ) (v : List ℕ) → is_name v ≡ true → ((x : Num) → Again room v x) → (l : Num-F Num) → Again (suc room) v (roll-Num l)
+-- an expression of this form, and what is left
+abbrev read_as : List ℕ → RawForm → Outcome Raw
+read_as rest g = Some (placed g, rest)
+
+again_is : {f g : RawForm} (rest : List ℕ) → f ≡ g → read_as rest g ≡ read_as rest f
+again_is rest e = ap (read_as rest) (sym e)
+
+-- a form is read where its parts are
+abbrev LayerAgain : ℕ → List ℕ → RawForm-F RawForm Raw → Type 0
+LayerAgain room v l = (c : ℕ) (rest : List ℕ) → is_in_word c ≡ false → over_layer v l ≡ true → depth_layer l ≤ room → num_at room (text_layer l ++ c ∷ rest) ≡ Some (placed (roll-RawForm l), c ∷ rest)
+
+layer_again : (room : ℕ) (v : List ℕ) → is_name v ≡ true → ((x : Raw) → Again room v x) → (l : RawForm-F RawForm Raw) → LayerAgain (suc room) v l
 unfolding num_at
 layer_again room v name h (o.Int z) = λ c rest k over d.
-    let f : fits z ≡ true = sym (over_step v (o.Int z)) ∙ over in
-    rw (text_step (o.Int z), n.rolls-Int z) (int_again (num_at room) z c rest f k)
-layer_again room v name h (o.Variable y) = λ c rest k over d.
-    let e : y ≡ v = text_is y v (sym (over_step v (o.Variable y)) ∙ over) in
-    rw (text_step (o.Variable y), n.rolls-Variable y) (variable_again (num_at room) y c rest (ap is_name e ∙ name) k)
+    int_again (num_at room) z c rest over k ∙ again_is (c ∷ rest) (n.rolls-Int z)
+layer_again room v name h (o.Name y) = λ c rest k over d.
+    let e : y ≡ v = text_is y v over in
+    name_again (num_at room) y c rest (ap is_name e ∙ name) k ∙ again_is (c ∷ rest) (n.rolls-Name y)
 layer_again room v name h (o.Add a b) = λ c rest k over d.
-    let f = both_true (is_over v a) (is_over v b) (sym (over_step v (o.Add a b)) ∙ over) in
-    let e : depth (roll-Num (o.Add a b)) ≡ max (depth a) (depth b) + 1 = depth_step (o.Add a b) in
+    let p = both_true (is_over v a) (is_over v b) over in
     let da : depth a ≤ room = omega arith in
     let db : depth b ≤ room = omega arith in
-    rw (text_step (o.Add a b), n.rolls-Add a b) (form_again room v op.Add (codes "(add ") a b (add_read (num_at room)) (two_again room v a b (h a) (h b) f.0 f.1 da db) c rest)
+    form_again room v op.Add (codes "(add ") a b (add_read (num_at room)) (two_again room v a b (h a) (h b) p.0 p.1 da db) c rest ∙ again_is (c ∷ rest) (n.rolls-Add a b)
 layer_again room v name h (o.Sub a b) = λ c rest k over d.
-    let f = both_true (is_over v a) (is_over v b) (sym (over_step v (o.Sub a b)) ∙ over) in
-    let e : depth (roll-Num (o.Sub a b)) ≡ max (depth a) (depth b) + 1 = depth_step (o.Sub a b) in
+    let p = both_true (is_over v a) (is_over v b) over in
     let da : depth a ≤ room = omega arith in
     let db : depth b ≤ room = omega arith in
-    rw (text_step (o.Sub a b), n.rolls-Sub a b) (form_again room v op.Sub (codes "(sub ") a b (sub_read (num_at room)) (two_again room v a b (h a) (h b) f.0 f.1 da db) c rest)
+    form_again room v op.Sub (codes "(sub ") a b (sub_read (num_at room)) (two_again room v a b (h a) (h b) p.0 p.1 da db) c rest ∙ again_is (c ∷ rest) (n.rolls-Sub a b)
 layer_again room v name h (o.Mul a b) = λ c rest k over d.
-    let f = both_true (is_over v a) (is_over v b) (sym (over_step v (o.Mul a b)) ∙ over) in
-    let e : depth (roll-Num (o.Mul a b)) ≡ max (depth a) (depth b) + 1 = depth_step (o.Mul a b) in
+    let p = both_true (is_over v a) (is_over v b) over in
     let da : depth a ≤ room = omega arith in
     let db : depth b ≤ room = omega arith in
-    rw (text_step (o.Mul a b), n.rolls-Mul a b) (form_again room v op.Mul (codes "(mul ") a b (mul_read (num_at room)) (two_again room v a b (h a) (h b) f.0 f.1 da db) c rest)
+    form_again room v op.Mul (codes "(mul ") a b (mul_read (num_at room)) (two_again room v a b (h a) (h b) p.0 p.1 da db) c rest ∙ again_is (c ∷ rest) (n.rolls-Mul a b)
+layer_again room v name h _ = λ c rest k over d. absurd cc
 
-pub nums_again : (room : ℕ) (v : List ℕ) → is_name v ≡ true → (x : Num) → Again room v x
+pub nums_again : (room : ℕ) (v : List ℕ) → is_name v ≡ true → (x : Raw) → Again room v x
 nums_again zero v name x = λ c rest k over d. let p = has_depth x in absurd (omega arith)
-nums_again (suc room) v name x = subst (λ (y : Num). Again (suc room) v y) (roll-out-Num x) (layer_again room v name (nums_again room v name) (out-Num x))
+nums_again (suc room) v name x = λ c rest k over d.
+    let p = both_true (over_layer v (form_of x)) ((out-Raw x).at == 0) (sym (over_opens v x) ∙ over) in
+    let small : depth_layer (form_of x) ≤ suc room = subst (λ (m : ℕ). m ≤ suc room) (depth_opens x) d in
+    ap (λ (t : List ℕ). num_at (suc room) (t ++ c ∷ rest)) (text_opens x) ∙ layer_again room v name (nums_again room v name) (form_of x) c rest k p.0 small ∙ ap (λ (y : Raw). Some (y, c ∷ rest)) (at_zero x p.1)
 
-test_again : (room : ℕ) (v : List ℕ) (t : Test) (c : ℕ) (rest : List ℕ) → is_name v ≡ true → test_is_over v t ≡ true → test_depth t ≤ room → test_at room (test_text t ++ c ∷ rest) ≡ Some (t, c ∷ rest)
+test_layer : (room : ℕ) (v : List ℕ) (l : RawForm-F RawForm Raw) (c : ℕ) (rest : List ℕ) → is_name v ≡ true → is_test_form v l ≡ true → depth_layer l ≤ suc room → test_at (suc room) (text_layer l ++ c ∷ rest) ≡ Some (placed (roll-RawForm l), c ∷ rest)
 unfolding test_at
-test_again zero v t c rest name over d = absurd (omega arith)
+test_layer room v (o.Lt a b) c rest name over d =
+    let f = both_true (is_over v a) (is_over v b) over in
+    let da : depth a ≤ room = omega arith in
+    let db : depth b ≤ room = omega arith in
+    let two = two_again room v a b (nums_again room v name a) (nums_again room v name b) f.0 f.1 da db in
+    ap (test_at (suc room)) (append_assoc (codes "(lt ") (parts_text (raw_text a) (raw_text b)) (c ∷ rest))
+    ∙ rw (after_again (codes "(lt ") (parts_text (raw_text a) (raw_text b) ++ c ∷ rest), two c rest) (again_is (c ∷ rest) (n.rolls-Lt a b))
+test_layer room v _ c rest name over d = absurd cc
+
+test_again : (room : ℕ) (v : List ℕ) (t : Raw) (c : ℕ) (rest : List ℕ) → is_name v ≡ true → is_test_over v t ≡ true → depth t ≤ room → test_at room (raw_text t ++ c ∷ rest) ≡ Some (t, c ∷ rest)
+test_again zero v t c rest name over d = let p = has_depth t in absurd (omega arith)
 test_again (suc room) v t c rest name over d =
-    let f = both_true (is_over v t.a) (is_over v t.b) over in
-    let da : depth t.a ≤ room = omega arith in
-    let db : depth t.b ≤ room = omega arith in
-    let two = two_again room v t.a t.b (nums_again room v name t.a) (nums_again room v name t.b) f.0 f.1 da db in
-    ap (test_at (suc room)) (append_assoc (codes "(lt ") (parts_text (num_text t.a) (num_text t.b)) (c ∷ rest))
-    ∙ rw (after_again (codes "(lt ") (parts_text (num_text t.a) (num_text t.b) ++ c ∷ rest), two c rest) refl
+    let p = both_true (is_test_form v (form_of t)) ((out-Raw t).at == 0) over in
+    let small : depth_layer (form_of t) ≤ suc room = subst (λ (m : ℕ). m ≤ suc room) (depth_opens t) d in
+    ap (λ (w : List ℕ). test_at (suc room) (w ++ c ∷ rest)) (text_opens t) ∙ test_layer room v (form_of t) c rest name p.0 small ∙ ap (λ (y : Raw). Some (y, c ∷ rest)) (at_zero t p.1)
 
 -- items
 abbrev pub IsPlain : ℕ → Item → Type 0
 IsPlain room (Sink name) = list_all is_in_word name ≡ true
 IsPlain room (Map name x s e) = (list_all is_in_word name ≡ true) × (is_name x ≡ true) × (list_all is_in_word s ≡ true) × (is_over x e ≡ true) × (depth e ≤ room)
-IsPlain room (Filter name x s t) = (list_all is_in_word name ≡ true) × (is_name x ≡ true) × (list_all is_in_word s ≡ true) × (test_is_over x t ≡ true) × (test_depth t ≤ room)
+IsPlain room (Filter name x s t) = (list_all is_in_word name ≡ true) × (is_name x ≡ true) × (list_all is_in_word s ≡ true) × (is_test_over x t ≡ true) × (depth t ≤ room)
 IsPlain room (Hold name z s) = (list_all is_in_word name ≡ true) × (fits z ≡ true) × (list_all is_in_word s ≡ true)
 
 sink_again : (name rest : List ℕ) → list_all is_in_word name ≡ true → sink_at (name ++ (codes " Int)" ++ rest)) ≡ Some (Sink name, rest)
 unfolding sink_at
 sink_again name rest p = rw (word_again name 32 (codes "Int)" ++ rest) p refl, after_again (codes " Int)") rest) refl
 
-map_again : (room : ℕ) (name x s rest : List ℕ) (e : Num) → is_name x ≡ true → list_all is_in_word s ≡ true → is_over x e ≡ true → depth e ≤ room
-    → map_at room name (x ++ (codes " " ++ (s ++ (codes " " ++ (num_text e ++ (codes "))" ++ rest)))))) ≡ Some (Map name x s e, rest)
+map_again : (room : ℕ) (name x s rest : List ℕ) (e : Raw) → is_name x ≡ true → list_all is_in_word s ≡ true → is_over x e ≡ true → depth e ≤ room
+    → map_at room name (x ++ (codes " " ++ (s ++ (codes " " ++ (raw_text e ++ (codes "))" ++ rest)))))) ≡ Some (Map name x s e, rest)
 unfolding map_at
 map_again room name x s rest e p q over d =
-    let third : List ℕ = num_text e ++ (codes "))" ++ rest) in
+    let third : List ℕ = raw_text e ++ (codes "))" ++ rest) in
     let second : List ℕ = s ++ (codes " " ++ third) in
     rw (word_again x 32 second (name_in_word x p) refl, after_again (codes " ") second, word_again s 32 third q refl, after_again (codes " ") third, nums_again room x p e 41 (codes ")" ++ rest) refl over d, after_again (codes "))") rest) refl
 
-filter_again : (room : ℕ) (name x s rest : List ℕ) (t : Test) → is_name x ≡ true → list_all is_in_word s ≡ true → test_is_over x t ≡ true → test_depth t ≤ room
-    → filter_at room name (x ++ (codes " " ++ (s ++ (codes " " ++ (test_text t ++ (codes "))" ++ rest)))))) ≡ Some (Filter name x s t, rest)
+filter_again : (room : ℕ) (name x s rest : List ℕ) (t : Raw) → is_name x ≡ true → list_all is_in_word s ≡ true → is_test_over x t ≡ true → depth t ≤ room
+    → filter_at room name (x ++ (codes " " ++ (s ++ (codes " " ++ (raw_text t ++ (codes "))" ++ rest)))))) ≡ Some (Filter name x s t, rest)
 unfolding filter_at
 filter_again room name x s rest t p q over d =
-    let third : List ℕ = test_text t ++ (codes "))" ++ rest) in
+    let third : List ℕ = raw_text t ++ (codes "))" ++ rest) in
     let second : List ℕ = s ++ (codes " " ++ third) in
     rw (word_again x 32 second (name_in_word x p) refl, after_again (codes " ") second, word_again s 32 third q refl, after_again (codes " ") third, test_again room x t 41 (codes ")" ++ rest) p over d, after_again (codes "))") rest) refl
 
@@ -230,11 +231,11 @@ item_let room bs = rw (not_sink bs, after_again (codes "(let ") bs) refl
 sink_parts : (name rest : List ℕ) → item_text (Sink name) ++ rest ≡ codes "(sink " ++ (name ++ (codes " Int)" ++ rest))
 sink_parts name rest = simp append_assoc
 
-map_parts : (name x s rest : List ℕ) (e : Num) → item_text (Map name x s e) ++ rest ≡ codes "(let " ++ (name ++ (codes " (map " ++ (x ++ (codes " " ++ (s ++ (codes " " ++ (num_text e ++ (codes "))" ++ rest))))))))
+map_parts : (name x s rest : List ℕ) (e : Raw) → item_text (Map name x s e) ++ rest ≡ codes "(let " ++ (name ++ (codes " (map " ++ (x ++ (codes " " ++ (s ++ (codes " " ++ (raw_text e ++ (codes "))" ++ rest))))))))
 map_parts name x s rest e = simp append_assoc
 
-filter_parts : (name x s rest : List ℕ) (t : Test) → item_text (Filter name x s t) ++ rest ≡ codes "(let " ++ (name ++ (codes " (filter " ++ (x ++ (codes " " ++ (s ++ (codes " " ++ (test_text t ++ (codes "))" ++ rest))))))))
-filter_parts name x s rest t = apart (test_text t) where
+filter_parts : (name x s rest : List ℕ) (t : Raw) → item_text (Filter name x s t) ++ rest ≡ codes "(let " ++ (name ++ (codes " (filter " ++ (x ++ (codes " " ++ (s ++ (codes " " ++ (raw_text t ++ (codes "))" ++ rest))))))))
+filter_parts name x s rest t = apart (raw_text t) where
   apart : (e : List ℕ) → (codes "(let " ++ name ++ codes " (filter " ++ x ++ codes " " ++ s ++ codes " " ++ e ++ codes "))") ++ rest
       ≡ codes "(let " ++ (name ++ (codes " (filter " ++ (x ++ (codes " " ++ (s ++ (codes " " ++ (e ++ (codes "))" ++ rest))))))))
   apart e = simp append_assoc
@@ -246,10 +247,10 @@ pub item_again : (room : ℕ) (i : Item) (rest : List ℕ) → IsPlain room i �
 item_again room (Sink name) rest p =
     ap (item_at room) (sink_parts name rest) ∙ item_sink room (name ++ (codes " Int)" ++ rest)) ∙ sink_again name rest p
 item_again room (Map name x s e) rest p =
-    let inner : List ℕ = x ++ (codes " " ++ (s ++ (codes " " ++ (num_text e ++ (codes "))" ++ rest))))) in
+    let inner : List ℕ = x ++ (codes " " ++ (s ++ (codes " " ++ (raw_text e ++ (codes "))" ++ rest))))) in
     ap (item_at room) (map_parts name x s rest e) ∙ item_let room (name ++ (codes " (map " ++ inner)) ∙ let_map room name inner p.0 ∙ map_again room name x s rest e p.1 p.2 p.3 p.4
 item_again room (Filter name x s t) rest p =
-    let inner : List ℕ = x ++ (codes " " ++ (s ++ (codes " " ++ (test_text t ++ (codes "))" ++ rest))))) in
+    let inner : List ℕ = x ++ (codes " " ++ (s ++ (codes " " ++ (raw_text t ++ (codes "))" ++ rest))))) in
     ap (item_at room) (filter_parts name x s rest t) ∙ item_let room (name ++ (codes " (filter " ++ inner)) ∙ let_filter room name inner p.0 ∙ filter_again room name x s rest t p.1 p.2 p.3 p.4
 item_again room (Hold name z s) rest p =
     let inner : List ℕ = signed_decimal z ++ (codes " " ++ (s ++ (codes "))" ++ rest))) in

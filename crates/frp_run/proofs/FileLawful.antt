@@ -3,7 +3,7 @@ use Rattle.std.proofs.Common.{◌≡◌, ℕ, ◌≤◌, Bool, true, false, List
 use Rattle.std.specs.Prelude.{◌&&◌, ◌||◌, not, nat_le}
 use Rattle.std.specs.List.{list_all, list_any, AllByRecursion}
 use Rattle.std.proofs.lemmas.Grind.{common_steps}
-use Rattle.frp_run.specs.File.{is_name, fits, depth, test_depth, is_over, test_is_over, name_of, declares, declares_sink, declares_stream, item_is_lawful, are_lawful, listen_is_lawful, send_is_lawful, sends_are_lawful, is_lawful, blank, without_last_feed, file_text, IsFileOf}
+use Rattle.frp_run.specs.File.{is_name, fits, depth, is_over, is_test_over, name_of, declares, declares_sink, declares_stream, item_is_lawful, are_lawful, listen_is_lawful, send_is_lawful, sends_are_lawful, is_lawful, blank, without_last_feed, file_text, IsFileOf}
 use Rattle.frp_run.specs.Reading.{Stops, file_at}
 use Rattle.frp_run.specs.declared.file.File.{File}
 use Rattle.frp_run.specs.declared.file.Item.{Item}
@@ -75,9 +75,9 @@ item_good earlier (Map name x s e) good h =
     let operand : is_name s ≡ true = any_named (declares_stream s) s (stream_name s) earlier good p.5 in
     record { plain = (name_in_word name p.0, p.1, name_in_word s operand, p.2, at_most (depth e) 16 p.3); named = p.0 }
 item_good earlier (Filter name x s t) good h =
-    let p = six_true (is_name name) (is_name x) (test_is_over x t) (nat_le (test_depth t) 16) (not (list_any (declares name) earlier)) (list_any (declares_stream s) earlier) h in
+    let p = six_true (is_name name) (is_name x) (is_test_over x t) (nat_le (depth t) 16) (not (list_any (declares name) earlier)) (list_any (declares_stream s) earlier) h in
     let operand : is_name s ≡ true = any_named (declares_stream s) s (stream_name s) earlier good p.5 in
-    record { plain = (name_in_word name p.0, p.1, name_in_word s operand, p.2, at_most (test_depth t) 16 p.3); named = p.0 }
+    record { plain = (name_in_word name p.0, p.1, name_in_word s operand, p.2, at_most (depth t) 16 p.3); named = p.0 }
 item_good earlier (Hold name z s) good h =
     let p = four_true (is_name name) (fits z) (not (list_any (declares name) earlier)) (list_any (declares_stream s) earlier) h in
     let operand : is_name s ≡ true = any_named (declares_stream s) s (stream_name s) earlier good p.3 in

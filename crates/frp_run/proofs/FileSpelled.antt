@@ -1,20 +1,19 @@
 -- What is read is spelled so.
-use Rattle.std.proofs.Common.{◌≡◌, ℕ, zero, suc, List, [], ◌∷◌, ◌++◌, map, Option, Some, None, refl, sym, ap, subst, ◌∙◌, append_assoc, rules}
+use Rattle.std.proofs.Common.{◌≡◌, ℕ, zero, suc, List, [], ◌∷◌, ◌++◌, map, Option, Some, None, refl, sym, ap, subst, ◌∙◌, append_assoc}
 use Rattle.std.specs.Prelude.{ℤ, codes}
 use Rattle.std.specs.Fmt.{signed_decimal}
 use Rattle.std.proofs.lemmas.List.{append-nil}
-use Rattle.frp_run.specs.File.{num_text, num_text_of, parts_text, test_text, item_text, send_text, spaced, listen_text, sender_text, file_text}
-use Rattle.frp_run.specs.Reading.{Outcome, ◌>>=◌, after, word_at, number_of, number_at, atom_by, atom_at, made, parts_at, form_at, num_by, num_at, test_at, sink_at, map_at, filter_at, hold_at, let_by, let_at, item_by, item_at, send_at, ended, list_at, listen_by, listen_at, sender_by, sender_at, whole, file_at}
+use Rattle.frp_expr.specs.declared.raw.Raw.{Raw}
+use Rattle.frp_expr.specs.declared.raw.RawForm.TheVariants as n
+use Rattle.frp_run.specs.File.{raw_text, parts_text, item_text, send_text, spaced, listen_text, sender_text, file_text}
+use Rattle.frp_run.specs.Reading.{Outcome, ◌>>=◌, after, word_at, number_of, number_at, placed, atom_by, atom_at, made, parts_at, form_at, num_by, num_at, test_at, sink_at, map_at, filter_at, hold_at, let_by, let_at, item_by, item_at, send_at, ended, list_at, listen_by, listen_at, sender_by, sender_at, whole, file_at}
 use Rattle.frp_run.specs.declared.file.File.{File}
 use Rattle.frp_run.specs.declared.file.Item.{Item}
 use Rattle.frp_run.specs.declared.file.Item.TheVariants.{Sink, Map, Filter, Hold}
-use Rattle.frp_run.specs.declared.file.Num.{Num, Num-F, roll-Num, map-Num, fold-roll-Num}
-use Rattle.frp_run.specs.declared.file.Num.TheOpen as o
-use Rattle.frp_run.specs.declared.file.Num.TheVariants as n
 use Rattle.frp_run.specs.declared.reader.forms.Operation.{Operation}
 use Rattle.frp_run.specs.declared.reader.forms.Operation.TheVariants as op
-use Rattle.frp_run.specs.declared.file.Test.{Test}
 use Rattle.frp_run.specs.declared.file.Sending.{Sending}
+use Rattle.frp_run.proofs.FileForms.{int_text, name_text, add_text, sub_text, mul_text, lt_text}
 use Rattle.frp_run.proofs.FileWords.{bind_some, some_is, after_takes, word_takes, number_takes, number_spelled}
 
 -- what was taken from the front
@@ -34,40 +33,22 @@ number : (bytes : List ℕ) (x : ℤ × List ℕ) → number_at bytes ≡ Some x
 number bytes x e = record { parts = number_spelled bytes x e }
 
 -- expressions
-pub text_step : (l : Num-F Num) → num_text (roll-Num l) ≡ num_text_of (map-Num Num (List ℕ) num_text l)
-text_step l = search (rules, fold-roll-Num)
-
-pub int_text : (z : ℤ) → num_text (n.Int z) ≡ signed_decimal z
-int_text z = ap num_text (sym (n.rolls-Int z)) ∙ text_step (o.Int z)
-
-pub variable_text : (x : List ℕ) → num_text (n.Variable x) ≡ x
-variable_text x = ap num_text (sym (n.rolls-Variable x)) ∙ text_step (o.Variable x)
-
-pub add_text : (a b : Num) → num_text (n.Add a b) ≡ codes "(add " ++ parts_text (num_text a) (num_text b)
-add_text a b = ap num_text (sym (n.rolls-Add a b)) ∙ text_step (o.Add a b)
-
-pub sub_text : (a b : Num) → num_text (n.Sub a b) ≡ codes "(sub " ++ parts_text (num_text a) (num_text b)
-sub_text a b = ap num_text (sym (n.rolls-Sub a b)) ∙ text_step (o.Sub a b)
-
-pub mul_text : (a b : Num) → num_text (n.Mul a b) ≡ codes "(mul " ++ parts_text (num_text a) (num_text b)
-mul_text a b = ap num_text (sym (n.rolls-Mul a b)) ∙ text_step (o.Mul a b)
-
-atom_text : (w : List ℕ) (o : Option ℤ) → number_of w ≡ o → w ≡ num_text (atom_by w o)
-atom_text w None e = sym (variable_text w)
+atom_text : (w : List ℕ) (o : Option ℤ) → number_of w ≡ o → w ≡ raw_text (atom_by w o)
+atom_text w None e = sym (name_text w)
 atom_text w (Some z) e = (number_takes w z e).0 ∙ sym (int_text z)
 
-abbrev AreSpelled : (List ℕ → Outcome Num) → Type 0
-AreSpelled sub = (bytes : List ℕ) (x : Num × List ℕ) → sub bytes ≡ Some x → Takes bytes (num_text x.0) x.1
+abbrev AreSpelled : (List ℕ → Outcome Raw) → Type 0
+AreSpelled sub = (bytes : List ℕ) (x : Raw × List ℕ) → sub bytes ≡ Some x → Takes bytes (raw_text x.0) x.1
 
 atom_spelled : AreSpelled atom_at
 unfolding atom_at
 atom_spelled bytes x e =
     let w = bind_some (word_at bytes) _ x e in
-    let t : Takes bytes (num_text (atom_by w.0.0 (number_of w.0.0))) w.0.1 = subst (λ (t : List ℕ). Takes bytes t w.0.1) (atom_text w.0.0 (number_of w.0.0) refl) (word bytes w.0 w.1) in
-    subst (λ (y : Num × List ℕ). Takes bytes (num_text y.0) y.1) (some_is _ x w.2) t
+    let t : Takes bytes (raw_text (atom_by w.0.0 (number_of w.0.0))) w.0.1 = subst (λ (t : List ℕ). Takes bytes t w.0.1) (atom_text w.0.0 (number_of w.0.0) refl) (word bytes w.0 w.1) in
+    subst (λ (y : Raw × List ℕ). Takes bytes (raw_text y.0) y.1) (some_is _ x w.2) t
 
-module _ (sub : List ℕ → Outcome Num) (h : AreSpelled sub) where
-  parts_spelled : (start : List ℕ) (x : (Num × Num) × List ℕ) → parts_at sub start ≡ Some x → Takes start (parts_text (num_text x.0.0) (num_text x.0.1)) x.1
+module _ (sub : List ℕ → Outcome Raw) (h : AreSpelled sub) where
+  parts_spelled : (start : List ℕ) (x : (Raw × Raw) × List ℕ) → parts_at sub start ≡ Some x → Takes start (parts_text (raw_text x.0.0) (raw_text x.0.1)) x.1
   unfolding parts_at
   parts_spelled start x e =
       let a = bind_some (sub start) _ x e in
@@ -77,20 +58,20 @@ module _ (sub : List ℕ → Outcome Num) (h : AreSpelled sub) where
       let t1 = takes_then _ _ _ _ _ (h start a.0 a.1) (literal (codes " ") a.0.1 m.0 m.1) in
       let t2 = takes_then _ _ _ _ _ t1 (h m.0 b.0 b.1) in
       let t3 = takes_then _ _ _ _ _ t2 (literal (codes ")") b.0.1 l.0 l.1) in
-      let found : (Num × Num) × List ℕ = ((a.0.0, b.0.0), l.0) in
-      subst (λ (y : (Num × Num) × List ℕ). Takes start (parts_text (num_text y.0.0) (num_text y.0.1)) y.1) (some_is found x l.2) t3
+      let found : (Raw × Raw) × List ℕ = ((a.0.0, b.0.0), l.0) in
+      subst (λ (y : (Raw × Raw) × List ℕ). Takes start (parts_text (raw_text y.0.0) (raw_text y.0.1)) y.1) (some_is found x l.2) t3
 
-  form_spelled : (f : Operation) (head : List ℕ) → ((a b : Num) → num_text (made f a b) ≡ head ++ parts_text (num_text a) (num_text b))
-      → (bytes start : List ℕ) (x : Num × List ℕ) → after head bytes ≡ Some start → form_at sub f start ≡ Some x → Takes bytes (num_text x.0) x.1
+  form_spelled : (f : Operation) (head : List ℕ) → ((a b : Raw) → raw_text (made f a b) ≡ head ++ parts_text (raw_text a) (raw_text b))
+      → (bytes start : List ℕ) (x : Raw × List ℕ) → after head bytes ≡ Some start → form_at sub f start ≡ Some x → Takes bytes (raw_text x.0) x.1
   unfolding form_at
   form_spelled f head text bytes start x i e =
       let ab = bind_some (parts_at sub start) _ x e in
-      let t = takes_then bytes head start (parts_text (num_text ab.0.0.0) (num_text ab.0.0.1)) ab.0.1 (literal head bytes start i) (parts_spelled start ab.0 ab.1) in
-      let found : Num × List ℕ = (made f ab.0.0.0 ab.0.0.1, ab.0.1) in
-      subst (λ (y : Num × List ℕ). Takes bytes (num_text y.0) y.1) (some_is found x ab.2) (subst (λ (t : List ℕ). Takes bytes t ab.0.1) (sym (text ab.0.0.0 ab.0.0.1)) t)
+      let t = takes_then bytes head start (parts_text (raw_text ab.0.0.0) (raw_text ab.0.0.1)) ab.0.1 (literal head bytes start i) (parts_spelled start ab.0 ab.1) in
+      let found : Raw × List ℕ = (made f ab.0.0.0 ab.0.0.1, ab.0.1) in
+      subst (λ (y : Raw × List ℕ). Takes bytes (raw_text y.0) y.1) (some_is found x ab.2) (subst (λ (t : List ℕ). Takes bytes t ab.0.1) (sym (text ab.0.0.0 ab.0.0.1)) t)
 
-  num_by_spelled : (bytes : List ℕ) (p q r : Option (List ℕ)) (x : Num × List ℕ) → after (codes "(add ") bytes ≡ p → after (codes "(sub ") bytes ≡ q → after (codes "(mul ") bytes ≡ r
-      → num_by sub bytes p q r ≡ Some x → Takes bytes (num_text x.0) x.1
+  num_by_spelled : (bytes : List ℕ) (p q r : Option (List ℕ)) (x : Raw × List ℕ) → after (codes "(add ") bytes ≡ p → after (codes "(sub ") bytes ≡ q → after (codes "(mul ") bytes ≡ r
+      → num_by sub bytes p q r ≡ Some x → Takes bytes (raw_text x.0) x.1
   num_by_spelled bytes (Some start) q r x i j k e = form_spelled op.Add (codes "(add ") add_text bytes start x i e
   num_by_spelled bytes None (Some start) r x i j k e = form_spelled op.Sub (codes "(sub ") sub_text bytes start x j e
   num_by_spelled bytes None None (Some start) x i j k e = form_spelled op.Mul (codes "(mul ") mul_text bytes start x k e
@@ -102,15 +83,15 @@ num_spelled zero bytes x e = absurd cc
 num_spelled (suc room) bytes x e =
     num_by_spelled (num_at room) (num_spelled room) bytes (after (codes "(add ") bytes) (after (codes "(sub ") bytes) (after (codes "(mul ") bytes) x refl refl refl e
 
-test_spelled : (room : ℕ) (bytes : List ℕ) (x : Test × List ℕ) → test_at room bytes ≡ Some x → Takes bytes (test_text x.0) x.1
+test_spelled : (room : ℕ) (bytes : List ℕ) (x : Raw × List ℕ) → test_at room bytes ≡ Some x → Takes bytes (raw_text x.0) x.1
 unfolding test_at
 test_spelled zero bytes x e = absurd cc
 test_spelled (suc room) bytes x e =
     let s = bind_some (after (codes "(lt ") bytes) _ x e in
     let ab = bind_some (parts_at (num_at room) s.0) _ x s.2 in
-    let t = takes_then bytes (codes "(lt ") s.0 (parts_text (num_text ab.0.0.0) (num_text ab.0.0.1)) ab.0.1 (literal (codes "(lt ") bytes s.0 s.1) (parts_spelled (num_at room) (num_spelled room) s.0 ab.0 ab.1) in
-    let found : Test × List ℕ = (record { a = ab.0.0.0; b = ab.0.0.1 }, ab.0.1) in
-    subst (λ (y : Test × List ℕ). Takes bytes (test_text y.0) y.1) (some_is found x ab.2) t
+    let t = takes_then bytes (codes "(lt ") s.0 (parts_text (raw_text ab.0.0.0) (raw_text ab.0.0.1)) ab.0.1 (literal (codes "(lt ") bytes s.0 s.1) (parts_spelled (num_at room) (num_spelled room) s.0 ab.0 ab.1) in
+    let found : Raw × List ℕ = (placed (n.Lt ab.0.0.0 ab.0.0.1), ab.0.1) in
+    subst (λ (y : Raw × List ℕ). Takes bytes (raw_text y.0) y.1) (some_is found x ab.2) (subst (λ (t : List ℕ). Takes bytes t ab.0.1) (sym (lt_text ab.0.0.0 ab.0.0.1)) t)
 
 -- items
 sink_spelled : (bytes start : List ℕ) (x : Item × List ℕ) → Takes bytes (codes "(sink ") start → sink_at start ≡ Some x → Takes bytes (item_text x.0) x.1

@@ -9,6 +9,8 @@ pub mod Cores
 pub mod Programs
 pub mod Sending
 pub mod FileAgain
+pub mod FileForms
+pub mod FileTyped
 pub mod FileLawful
 pub mod FileLists
 pub mod FileSpelled

@@ -1,6 +1,6 @@
 -- The program of a lawful file: its nodes are in order, what it listens to is a node, and what it sends to is a sink.
 use Rattle.std.proofs.Common.{◌≡◌, ℕ, ◌+◌, ◌<◌, ◌≤◌, Bool, true, false, ◌||◌, List, [], ◌∷◌, ◌++◌, map, length, refl, sym, ap, ◌∙◌, subst, arith, inl, inr, suc, zero, zero-add}
-use Rattle.std.specs.Prelude.{Option, Some, None, IsTrue, IsSome}
+use Rattle.std.specs.Prelude.{Option, Some, None, IsTrue, IsSome, ◌&&◌, not, nat_le}
 use Rattle.std.specs.List.{AllByRecursion, list_any, list_all}
 use Rattle.std.specs.Cmp.{unsigned_Decides}
 use Rattle.std.proofs.lemmas.Bool.{and_parts, or_left, or_right, not-true, false_from_ne_true, false≢true, cases_Bool, leb-true}
@@ -17,8 +17,9 @@ use Rattle.frp_run.specs.declared.file.File.{File}
 use Rattle.frp_run.specs.declared.file.Item.{Item}
 use Rattle.frp_run.specs.declared.file.Item.TheVariants.{Sink, Map, Filter, Hold}
 use Rattle.frp_run.specs.declared.file.Sending.{Sending}
-use Rattle.frp_run.specs.File.{declares, declares_sink, declares_stream, item_is_lawful, are_lawful, listen_is_lawful, sends_are_lawful, send_is_lawful, is_lawful}
-use Rattle.frp_run.specs.Programs.{position_of, node_named, node_of, nodes_from, prog_of, listens_of, fact_of, sent, sent_facts}
+use Rattle.frp_run.specs.File.{is_name, is_over, is_test_over, depth, declares, declares_sink, declares_stream, item_is_lawful, are_lawful, listen_is_lawful, sends_are_lawful, send_is_lawful, is_lawful}
+use Rattle.frp_run.specs.Programs.{IsTypedItem, position_of, node_named, node_of, nodes_from, prog_of, listens_of, fact_of, sent, sent_facts}
+use Rattle.frp_run.proofs.FileTyped.{map_typed, test_typed}
 use Rattle.frp_run.specs.Small.{IsEarlier, IsSmall, AreSmallFrom}
 
 -- where the first of two does not hold, the second does
@@ -174,6 +175,23 @@ sends_lawful f h = (and_parts _ _ h).1
 -- a lawful file has at most 1,000 items
 pub lawful_count : (f : File) → IsTrue (is_lawful f) → length f.items ≤ 1000
 lawful_count f h = leb-true _ _ (and_parts _ _ (and_parts _ _ (and_parts _ _ h).0).0).0
+
+-- the expression of a lawful item has no fault
+item_typed : (earlier : List Item) (i : Item) → item_is_lawful earlier i ≡ true → IsTypedItem i
+item_typed earlier (Sink name) h = tt
+item_typed earlier (Map name x s e) h = map_typed x e (and_parts _ _ (and_parts _ _ (and_parts _ _ (and_parts (is_name name && is_name x && is_over x e && nat_le (depth e) 16 && not (list_any (declares name) earlier)) _ h).0).0).0).1
+item_typed earlier (Filter name x s t) h = test_typed x t (and_parts _ _ (and_parts _ _ (and_parts _ _ (and_parts (is_name name && is_name x && is_test_over x t && nat_le (depth t) 16 && not (list_any (declares name) earlier)) _ h).0).0).0).1
+item_typed earlier (Hold name z s) h = tt
+
+items_typed : (earlier items : List Item) → are_lawful earlier items ≡ true → AllByRecursion IsTypedItem items
+items_typed earlier [] h = tt
+items_typed earlier (i ∷ is) h =
+    let parts : (item_is_lawful earlier i ≡ true) × (are_lawful (earlier ++ i ∷ []) is ≡ true) = and_parts (item_is_lawful earlier i) _ h in
+    (item_typed earlier i parts.0, items_typed (earlier ++ i ∷ []) is parts.1)
+
+-- the expressions of a lawful file have no fault
+pub lawful_is_typed : (f : File) → IsTrue (is_lawful f) → AllByRecursion IsTypedItem f.items
+lawful_is_typed f h = items_typed [] f.items (items_lawful f h)
 
 -- the nodes of a lawful file's program are in order
 pub lawful_is_small : (f : File) → IsTrue (is_lawful f) → AreSmallFrom 0 (prog_of f).nodes

@@ -3,14 +3,12 @@ use Rattle.std.specs.Prelude.{◌≡◌, ℕ, ◌+◌, ℤ, Bool, true, false, n
 use Rattle.std.specs.List.{list_any, list_all}
 use Rattle.std.specs.Fmt.{signed_decimal}
 use lib.Pointwise.{pointwise}
+use Rattle.frp_expr.specs.declared.raw.Raw.{Raw, out-Raw, fold-Raw}
+use Rattle.frp_expr.specs.declared.raw.RawForm.{RawForm, RawForm-F, out-RawForm}
+use Rattle.frp_expr.specs.declared.raw.RawForm.TheOpen as o
 use Rattle.frp_run.specs.declared.file.File.{File}
 use Rattle.frp_run.specs.declared.file.Item.{Item}
 use Rattle.frp_run.specs.declared.file.Item.TheVariants.{Sink, Map, Filter, Hold}
-use Rattle.frp_run.specs.declared.file.Num.{Num}
-use Rattle.frp_run.specs.declared.file.Num.TheOpen.{Num-F}
-use Rattle.frp_run.specs.declared.file.Num.TheOpen as n
-use Rattle.frp_run.specs.declared.file.Num.TheFolds.{fold-Num}
-use Rattle.frp_run.specs.declared.file.Test.{Test}
 use Rattle.frp_run.specs.declared.file.Sending.{Sending}
 
 abbrev pub text_eq : List ℕ → List ℕ → Bool
@@ -22,23 +20,23 @@ text_eq = pointwise ◌==◌
 abbrev pub parts_text : List ℕ → List ℕ → List ℕ
 parts_text a b = a ++ codes " " ++ b ++ codes ")"
 
-abbrev pub num_text_of : Num-F (List ℕ) → List ℕ
-num_text_of (n.Int z) = signed_decimal z
-num_text_of (n.Variable x) = x
-num_text_of (n.Add a b) = codes "(add " ++ parts_text a b
-num_text_of (n.Sub a b) = codes "(sub " ++ parts_text a b
-num_text_of (n.Mul a b) = codes "(mul " ++ parts_text a b
+abbrev pub raw_text_step : RawForm-F (List ℕ) (List ℕ) → List ℕ
+raw_text_step (o.Int z) = signed_decimal z
+raw_text_step (o.Name x) = x
+raw_text_step (o.Add a b) = codes "(add " ++ parts_text a b
+raw_text_step (o.Sub a b) = codes "(sub " ++ parts_text a b
+raw_text_step (o.Mul a b) = codes "(mul " ++ parts_text a b
+raw_text_step (o.Lt a b) = codes "(lt " ++ parts_text a b
+raw_text_step _ = []
 
-abbrev pub num_text : Num → List ℕ
-num_text = fold-Num (List ℕ) num_text_of
-
-abbrev pub test_text : Test → List ℕ
-test_text t = codes "(lt " ++ parts_text (num_text t.a) (num_text t.b)
+-- an expression; a form that the small grammar has not is no text
+abbrev pub raw_text : Raw → List ℕ
+raw_text = fold-Raw (List ℕ) (List ℕ) raw_text_step (λ r. r.form)
 
 abbrev pub item_text : Item → List ℕ
 item_text (Sink name) = codes "(sink " ++ name ++ codes " Int)"
-item_text (Map name x s e) = codes "(let " ++ name ++ codes " (map " ++ x ++ codes " " ++ s ++ codes " " ++ num_text e ++ codes "))"
-item_text (Filter name x s t) = codes "(let " ++ name ++ codes " (filter " ++ x ++ codes " " ++ s ++ codes " " ++ test_text t ++ codes "))"
+item_text (Map name x s e) = codes "(let " ++ name ++ codes " (map " ++ x ++ codes " " ++ s ++ codes " " ++ raw_text e ++ codes "))"
+item_text (Filter name x s t) = codes "(let " ++ name ++ codes " (filter " ++ x ++ codes " " ++ s ++ codes " " ++ raw_text t ++ codes "))"
 item_text (Hold name z s) = codes "(let " ++ name ++ codes " (hold " ++ signed_decimal z ++ codes " " ++ s ++ codes "))"
 
 abbrev pub send_text : Sending → List ℕ
@@ -93,32 +91,37 @@ is_name t = begins_lower t && list_all is_in_name t && nat_le (length t) 32 && n
 abbrev pub fits : ℤ → Bool
 fits z = int_le (neg_ℤ (pos (2 ^ 63))) z && int_lt z (pos (2 ^ 63))
 
-abbrev pub depth_of : Num-F ℕ → ℕ
-depth_of (n.Add a b) = max a b + 1
-depth_of (n.Sub a b) = max a b + 1
-depth_of (n.Mul a b) = max a b + 1
-depth_of _ = 1
+abbrev pub depth_step : RawForm-F ℕ ℕ → ℕ
+depth_step (o.Add a b) = max a b + 1
+depth_step (o.Sub a b) = max a b + 1
+depth_step (o.Mul a b) = max a b + 1
+depth_step (o.Lt a b) = max a b + 1
+depth_step _ = 1
 
 -- an atom has depth 1, a form is one deeper than its deepest part
-abbrev pub depth : Num → ℕ
-depth = fold-Num ℕ depth_of
+abbrev pub depth : Raw → ℕ
+depth = fold-Raw ℕ ℕ depth_step (λ r. r.form)
 
-abbrev pub test_depth : Test → ℕ
-test_depth t = max (depth t.a) (depth t.b) + 1
+-- Each number fits, and each name is the variable. No fault of the small grammar has a place, so each place is 0.
+abbrev pub is_over_step : List ℕ → RawForm-F Bool Bool → Bool
+is_over_step x (o.Int z) = fits z
+is_over_step x (o.Name y) = text_eq y x
+is_over_step x (o.Add a b) = a && b
+is_over_step x (o.Sub a b) = a && b
+is_over_step x (o.Mul a b) = a && b
+is_over_step x _ = false
 
--- each number fits, and each name is the variable
-abbrev pub is_over_step : List ℕ → Num-F Bool → Bool
-is_over_step x (n.Int z) = fits z
-is_over_step x (n.Variable y) = text_eq y x
-is_over_step x (n.Add a b) = a && b
-is_over_step x (n.Sub a b) = a && b
-is_over_step x (n.Mul a b) = a && b
+-- an expression for a number
+abbrev pub is_over : List ℕ → Raw → Bool
+is_over x = fold-Raw Bool Bool (is_over_step x) (λ r. r.form && r.at == 0)
 
-abbrev pub is_over : List ℕ → Num → Bool
-is_over x = fold-Num Bool (is_over_step x)
+-- the test that a number is less than another
+abbrev pub is_test_form : List ℕ → RawForm-F RawForm Raw → Bool
+is_test_form x (o.Lt a b) = is_over x a && is_over x b
+is_test_form x _ = false
 
-abbrev pub test_is_over : List ℕ → Test → Bool
-test_is_over x t = is_over x t.a && is_over x t.b
+abbrev pub is_test_over : List ℕ → Raw → Bool
+is_test_over x t = is_test_form x (out-RawForm (out-Raw t).form) && (out-Raw t).at == 0
 
 abbrev pub name_of : Item → List ℕ
 name_of (Sink name) = name
@@ -143,7 +146,7 @@ item_is_lawful earlier (Sink name) = is_name name && not (list_any (declares nam
 item_is_lawful earlier (Map name x s e) =
     is_name name && is_name x && is_over x e && nat_le (depth e) 16 && not (list_any (declares name) earlier) && list_any (declares_stream s) earlier
 item_is_lawful earlier (Filter name x s t) =
-    is_name name && is_name x && test_is_over x t && nat_le (test_depth t) 16 && not (list_any (declares name) earlier) && list_any (declares_stream s) earlier
+    is_name name && is_name x && is_test_over x t && nat_le (depth t) 16 && not (list_any (declares name) earlier) && list_any (declares_stream s) earlier
 item_is_lawful earlier (Hold name z s) =
     is_name name && fits z && not (list_any (declares name) earlier) && list_any (declares_stream s) earlier
 

@@ -1,11 +1,13 @@
 -- What a lawful file means: its program, what it listens to, and its sender's script.
-use Rattle.std.specs.Prelude.{ℕ, suc, List, [], ◌∷◌, ◌++◌, Option, Some, None, is_some, length, map, if◌then◌else◌}
+use Rattle.std.specs.Prelude.{◌≡◌, IsTrue, Ok, ℕ, suc, List, [], ◌∷◌, ◌++◌, Option, Some, None, is_some, length, map, if◌then◌else◌}
 use Rattle.frp_base.specs.declared.name.Name.{Name}
+use Rattle.frp_base.specs.declared.ty.Ty.{Ty}
 use Rattle.frp_base.specs.declared.ty.Ty.TheVariants as t
 use Rattle.frp_base.specs.declared.val.Val.TheVariants as v
 use Rattle.frp_base.specs.Name.{declared_name}
 use Rattle.frp_expr.specs.declared.expr.Expr.{Expr}
-use Rattle.frp_expr.specs.declared.expr.Expr.TheVariants as e
+use Rattle.frp_expr.specs.Raw.{is_lawful, resolve, typing}
+use Rattle.frp_expr.specs.declared.raw.Raw.{Raw}
 use Rattle.frp_graph.specs.declared.trace.Node.{Node}
 use Rattle.frp_graph.specs.declared.trace.Fact.{Fact}
 use Rattle.frp_graph.specs.declared.prog.Prog.{Prog}
@@ -13,11 +15,6 @@ use Rattle.frp_graph.specs.declared.shape.Shape.TheVariants as s
 use Rattle.frp_run.specs.declared.file.File.{File}
 use Rattle.frp_run.specs.declared.file.Item.{Item}
 use Rattle.frp_run.specs.declared.file.Item.TheVariants.{Sink, Map, Filter, Hold}
-use Rattle.frp_run.specs.declared.file.Num.{Num}
-use Rattle.frp_run.specs.declared.file.Num.TheOpen.{Num-F}
-use Rattle.frp_run.specs.declared.file.Num.TheOpen as n
-use Rattle.frp_run.specs.declared.file.Num.TheFolds.{fold-Num}
-use Rattle.frp_run.specs.declared.file.Test.{Test}
 use Rattle.frp_run.specs.declared.file.Sending.{Sending}
 use Rattle.frp_run.specs.File.{declares}
 
@@ -30,25 +27,23 @@ position_of name (i ∷ is) = if declares name i then 0 else suc (position_of na
 abbrev pub node_named : List Item → List ℕ → Name
 node_named items name = declared_name (position_of name items)
 
--- the one variable of a map or a filter is its only argument
-abbrev pub expr_step : Num-F Expr → Expr
-expr_step (n.Int z) = e.Int z
-expr_step (n.Variable x) = e.Var 0
-expr_step (n.Add a b) = e.Add a b
-expr_step (n.Sub a b) = e.Sub a b
-expr_step (n.Mul a b) = e.Mul a b
+-- It is lawful, and has no fault over one variable, a number.
+pub record IsTyped (x : List ℕ) (e : Raw) : Type 0 where
+  pub lawful : IsTrue (is_lawful e)
+  pub ty : Ty
+  pub faultless : typing [] e ((x, t.Int) ∷ []) ≡ Ok ty
 
-abbrev pub expr_of : Num → Expr
-expr_of = fold-Num Expr expr_step
+-- so is the expression of a map, and that of a filter
+abbrev pub IsTypedItem : Item → Type 0
+IsTypedItem (Map name x of e) = IsTyped x e
+IsTypedItem (Filter name x of test) = IsTyped x test
+IsTypedItem _ = Unit {0}
 
-abbrev pub test_of : Test → Expr
-test_of t = e.Lt (expr_of t.a) (expr_of t.b)
-
--- the expressions of the maps and filters, in order
+-- the expressions of the maps and filters, in order, each over its one variable
 abbrev pub codes_of : List Item → List Expr
 codes_of [] = []
-codes_of (Map name x s e ∷ is) = expr_of e ∷ codes_of is
-codes_of (Filter name x s t ∷ is) = test_of t ∷ codes_of is
+codes_of (Map name x s e ∷ is) = resolve [] e (x ∷ []) ∷ codes_of is
+codes_of (Filter name x s t ∷ is) = resolve [] t (x ∷ []) ∷ codes_of is
 codes_of (_ ∷ is) = codes_of is
 
 -- the node of an item after these earlier ones

@@ -3,13 +3,13 @@ use Rattle.std.specs.Prelude.{◌≡◌, ◌++◌, ◌==◌, ◌||◌, ◌&&◌,
 use Rattle.std.specs.List.{prefix_len}
 use Rattle.std.specs.Fmt.{signed_decimal}
 use Rattle.std.specs.Str.Parse.{signed_digits_value}
+use Rattle.frp_expr.specs.declared.raw.Raw.{Raw, roll-Raw}
+use Rattle.frp_expr.specs.declared.raw.RawForm.{RawForm}
+use Rattle.frp_expr.specs.declared.raw.RawForm.TheVariants as f
 use Rattle.frp_run.specs.File.{text_eq, is_in_name, fits}
 use Rattle.frp_run.specs.declared.file.File.{File}
 use Rattle.frp_run.specs.declared.file.Item.{Item}
 use Rattle.frp_run.specs.declared.file.Item.TheVariants.{Sink, Map, Filter, Hold}
-use Rattle.frp_run.specs.declared.file.Num.{Num}
-use Rattle.frp_run.specs.declared.file.Num.TheVariants as n
-use Rattle.frp_run.specs.declared.file.Test.{Test}
 use Rattle.frp_run.specs.declared.file.Sending.{Sending}
 use Rattle.frp_run.specs.declared.reader.forms.Operation.{Operation}
 use Rattle.frp_run.specs.declared.reader.forms.Operation.TheVariants as op
@@ -60,25 +60,29 @@ number_at bytes = do
   z ← number_of word.0
   Some (z, word.1)
 
-abbrev pub atom_by : List ℕ → Option ℤ → Num
-atom_by word (Some z) = n.Int z
-atom_by word None = n.Variable word
+-- an expression of this form; no fault of the small grammar has a place, so each place is 0
+abbrev pub placed : RawForm → Raw
+placed form = roll-Raw (record { at = 0; form = form })
+
+abbrev pub atom_by : List ℕ → Option ℤ → Raw
+atom_by word (Some z) = placed (f.Int z)
+atom_by word None = placed (f.Name word)
 
 -- a number or a name
-unfoldable pub atom_at : List ℕ → Outcome Num
+unfoldable pub atom_at : List ℕ → Outcome Raw
 atom_at bytes = do
   word ← word_at bytes
   Some (atom_by word.0 (number_of word.0), word.1)
 
 -- what an operation makes of two parts
-abbrev pub made : Operation → Num → Num → Num
-made op.Add a b = n.Add a b
-made op.Sub a b = n.Sub a b
-made op.Mul a b = n.Mul a b
+abbrev pub made : Operation → Raw → Raw → Raw
+made op.Add a b = placed (f.Add a b)
+made op.Sub a b = placed (f.Sub a b)
+made op.Mul a b = placed (f.Mul a b)
 
-module _ (sub : List ℕ → Outcome Num) where
+module _ (sub : List ℕ → Outcome Raw) where
   -- two parts and the right parenthesis
-  unfoldable pub parts_at : List ℕ → Outcome (Num × Num)
+  unfoldable pub parts_at : List ℕ → Outcome (Raw × Raw)
   parts_at bytes = do
     a ← sub bytes
     middle ← after (codes " ") a.1
@@ -87,29 +91,29 @@ module _ (sub : List ℕ → Outcome Num) where
     Some ((a.0, b.0), rest)
 
   -- the form of this operation
-  unfoldable pub form_at : Operation → List ℕ → Outcome Num
+  unfoldable pub form_at : Operation → List ℕ → Outcome Raw
   form_at operation bytes = do
     ab ← parts_at bytes
     Some (made operation ab.0.0 ab.0.1, ab.1)
 
-  abbrev pub num_by : List ℕ → Option (List ℕ) → Option (List ℕ) → Option (List ℕ) → Outcome Num
+  abbrev pub num_by : List ℕ → Option (List ℕ) → Option (List ℕ) → Option (List ℕ) → Outcome Raw
   num_by bytes (Some rest) p q = form_at op.Add rest
   num_by bytes None (Some rest) q = form_at op.Sub rest
   num_by bytes None None (Some rest) = form_at op.Mul rest
   num_by bytes None None None = atom_at bytes
 
 -- an expression of at most so many levels
-unfoldable pub num_at : ℕ → List ℕ → Outcome Num
+unfoldable pub num_at : ℕ → List ℕ → Outcome Raw
 num_at zero bytes = None
 num_at (suc room) bytes = num_by (num_at room) bytes (after (codes "(add ") bytes) (after (codes "(sub ") bytes) (after (codes "(mul ") bytes)
 
 -- a test of at most so many levels
-unfoldable pub test_at : ℕ → List ℕ → Outcome Test
+unfoldable pub test_at : ℕ → List ℕ → Outcome Raw
 test_at zero bytes = None
 test_at (suc room) bytes = do
   first ← after (codes "(lt ") bytes
   ab ← parts_at (num_at room) first
-  Some (record { a = ab.0.0; b = ab.0.1 }, ab.1)
+  Some (placed (f.Lt ab.0.0 ab.0.1), ab.1)
 
 -- what follows the head of an item
 unfoldable pub sink_at : List ℕ → Outcome Item

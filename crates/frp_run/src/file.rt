@@ -1,4 +1,5 @@
-use frp_base::{Boxed, Seq, Text};
+use frp_base::{Seq, Text};
+use frp_expr::Raw;
 
 /// A file of the small grammar, as it is written: its items, what it listens to, and the sends of its sender, where it
 /// has one.
@@ -19,36 +20,19 @@ pub enum Item {
         name: Text,
         variable: Text,
         of: Text,
-        e: Num,
+        e: Raw,
     },
     Filter {
         name: Text,
         variable: Text,
         of: Text,
-        test: Test,
+        test: Raw,
     },
     Hold {
         name: Text,
         first: i64,
         of: Text,
     },
-}
-
-/// An expression for a number.
-#[derive(Drop)]
-pub enum Num {
-    Int(i64),
-    Variable(Text),
-    Add(Boxed<Num>, Boxed<Num>),
-    Sub(Boxed<Num>, Boxed<Num>),
-    Mul(Boxed<Num>, Boxed<Num>),
-}
-
-/// The test that `a` is less than `b`.
-#[derive(Drop)]
-pub struct Test {
-    pub a: Num,
-    pub b: Num,
 }
 
 /// A send of a number to the sink of this name.

@@ -1,16 +1,20 @@
-ghost use Rattle.std.specs.Prelude.{◌≡◌, ◌≤◌, [], IfOk, length, map};
+ghost use Rattle.std.specs.Prelude.{◌≡◌, ◌≤◌, [], ◌∷◌, IfOk, length, map};
 ghost use Rattle.std.specs.Option.{option_to_list};
+ghost use Rattle.std.specs.List.{AllByRecursion};
+ghost use Rattle.frp_expr.specs.Raw.{resolve};
 ghost use Rattle.frp_run.specs.File.{name_of};
-ghost use Rattle.frp_run.specs.Programs.{position_of, node_named, expr_of, test_of, codes_of, node_of, nodes_from, prog_of, listens_of, fact_of, sent_facts};
+ghost use Rattle.frp_run.specs.Programs.{IsTyped, IsTypedItem, position_of, node_named, codes_of, node_of, nodes_from, prog_of, listens_of, fact_of, sent_facts};
 
-use crate::file::{File, Item, Num, Sending, Test};
+use crate::file::{File, Item, Sending};
 use frp_base::{Boxed, Memory, Name, Seq, Text, Ty, Val};
-use frp_graph::{Expr, Fact, Lam, Node, Prog, Shape};
+use frp_expr::{Expr, ExprStop, Raw, Scope, Typing, type_of};
+use frp_graph::{Fact, Lam, Node, Prog, Shape};
 use std::alloc::Global;
 
 /// The program of a file of at most 1,000 items: a node for each item, and an expression for each map and each filter.
 pub fn program(alloc: Global, file: &File) -> Result<Prog, Memory>
-    requires { length file.now.items ≤ 1000 }
+    requires few { length file.now.items ≤ 1000 }
+    requires typed { AllByRecursion IsTypedItem file.now.items }
     ensures { IfOk result (λ p. p ≡ prog_of file.now) }
 {
     let items = file.items.as_slice();
@@ -57,13 +61,16 @@ fn facts(alloc: Global, items: &[Item], sends: &[Sending]) -> Result<Seq<Fact>, 
 
 /// The expressions of the maps and filters, in order.
 fn codes(alloc: Global, items: &[Item]) -> Result<Seq<Expr>, Memory>
+    requires { AllByRecursion IsTypedItem items.now }
     ensures { IfOk result (λ codes. codes ≡ codes_of items.now) }
 {
     let mut codes = Seq::new(alloc);
     for item in items {
         match item {
-            Item::Map { e, .. } => codes.add(expression(alloc, e)?)?,
-            Item::Filter { test, .. } => codes.add(test_expression(alloc, test)?)?,
+            Item::Map { variable, e, .. } => codes.add(expression(alloc, variable, e)?)?,
+            Item::Filter { variable, test, .. } => {
+                codes.add(expression(alloc, variable, test)?)?
+            }
             _ => {}
         }
     }
@@ -170,38 +177,22 @@ fn first_value(item: &Item) -> Option<Val>
     }
 }
 
-/// An expression of a file, as one over a list of one value: its variable is the first value.
-fn expression(alloc: Global, e: &Num) -> Result<Expr, Memory>
-    ensures { IfOk result (λ expr. expr ≡ expr_of e.now) }
+/// The expression that a written one stands for over its one variable, a number.
+fn expression(alloc: Global, variable: &Text, e: &Raw) -> Result<Expr, Memory>
+    requires { IsTyped variable.now e.now }
+    ensures { IfOk result (λ expr. expr ≡ resolve [] e.now (variable.now ∷ [])) }
 {
-    match e {
-        Num::Int(n) => Ok(Expr::Int(*n)),
-        Num::Variable(_) => Ok(Expr::Var(0)),
-        Num::Add(a, b) => {
-            let a = Boxed::new(alloc, expression(alloc, a.get())?)?;
-            let b = Boxed::new(alloc, expression(alloc, b.get())?)?;
-            Ok(Expr::Add(a, b))
-        }
-        Num::Sub(a, b) => {
-            let a = Boxed::new(alloc, expression(alloc, a.get())?)?;
-            let b = Boxed::new(alloc, expression(alloc, b.get())?)?;
-            Ok(Expr::Sub(a, b))
-        }
-        Num::Mul(a, b) => {
-            let a = Boxed::new(alloc, expression(alloc, a.get())?)?;
-            let b = Boxed::new(alloc, expression(alloc, b.get())?)?;
-            Ok(Expr::Mul(a, b))
-        }
+    let mut names = Seq::new(alloc);
+    names.add((variable.copy()?, Ty::Int))?;
+    let scope = Scope {
+        names,
+        funs: Seq::new(alloc),
+    };
+    match type_of(alloc, e, &scope) {
+        Ok(Typing { expr, .. }) => Ok(expr),
+        Err(ExprStop::Memory) => Err(Memory),
+        Err(ExprStop::Fault(_)) => unreachable!(),
     }
-}
-
-/// A test of a file, as an expression over a list of one value.
-fn test_expression(alloc: Global, test: &Test) -> Result<Expr, Memory>
-    ensures { IfOk result (λ expr. expr ≡ test_of test.now) }
-{
-    let a = Boxed::new(alloc, expression(alloc, &test.a)?)?;
-    let b = Boxed::new(alloc, expression(alloc, &test.b)?)?;
-    Ok(Expr::Lt(a, b))
 }
 
 /// The node of the item that declares this name.

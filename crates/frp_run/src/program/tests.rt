@@ -1,7 +1,8 @@
 use super::{listen, program, script};
-use crate::file::{File, Item, Num, Sending};
+use crate::file::{File, Item, Sending};
 use frp_base::{Boxed, Memory, Name, Seq, Text, Val};
-use frp_graph::{Expr, Prog, Shape};
+use frp_expr::{Expr, Raw, RawForm};
+use frp_graph::{Prog, Shape};
 use std::alloc::Global;
 
 fn text(alloc: Global, words: &str) -> Result<Text, Memory> {
@@ -10,10 +11,14 @@ fn text(alloc: Global, words: &str) -> Result<Text, Memory> {
     Ok(text)
 }
 
+fn raw(form: RawForm) -> Raw {
+    Raw { at: 0, form }
+}
+
 /// `(graph (sink a Int) (let b (map x a (add x 1))) (let h (hold 7 b))) (listen h) (sender (send a 4))`
 fn file(alloc: Global) -> Result<File, Memory> {
-    let variable = Boxed::new(alloc, Num::Variable(text(alloc, "x")?))?;
-    let one = Boxed::new(alloc, Num::Int(1))?;
+    let variable = Boxed::new(alloc, raw(RawForm::Name(text(alloc, "x")?)))?;
+    let one = Boxed::new(alloc, raw(RawForm::Int(1)))?;
     let mut items = Seq::new(alloc);
     items.add(Item::Sink {
         name: text(alloc, "a")?,
@@ -22,7 +27,7 @@ fn file(alloc: Global) -> Result<File, Memory> {
         name: text(alloc, "b")?,
         variable: text(alloc, "x")?,
         of: text(alloc, "a")?,
-        e: Num::Add(variable, one),
+        e: raw(RawForm::Add(variable, one)),
     })?;
     items.add(Item::Hold {
         name: text(alloc, "h")?,

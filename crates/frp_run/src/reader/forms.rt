@@ -1,13 +1,14 @@
 //! Expressions, items, sends and files, as they are written.
 
-ghost use Rattle.std.specs.Prelude.{◌≡◌, []};
+ghost use Rattle.std.specs.Prelude.{◌≡◌, [], IfOk};
 ghost use Rattle.frp_run.specs.Reading as spec;
 ghost use Rattle.frp_run.specs.Reading.{Reads};
 
-use crate::file::{File, Item, Num, Sending, Test};
+use crate::file::{File, Item, Sending};
 use crate::reader::ReadStop;
 use crate::reader::words::{after, expect, name, number, number_of, text_of, word};
-use frp_base::{Boxed, Seq, Text};
+use frp_base::{Boxed, Memory, Seq, Text};
+use frp_expr::{Raw, RawForm};
 use std::alloc::Global;
 
 /// What is done with two numbers.
@@ -18,22 +19,39 @@ enum Operation {
     Mul,
 }
 
+/// An expression of this form. No fault of the small grammar has a place, so each place is 0.
+fn placed(alloc: Global, form: RawForm) -> Result<Boxed<Raw>, Memory>
+    ensures { IfOk result (λ raw. raw ≡ spec.placed form) }
+{
+    Boxed::new(alloc, Raw { at: 0, form })
+}
+
 /// A number or a name.
 #[tactic(auto, unfolding(crate::specs::Reading::atom_at))]
-fn atom(alloc: Global, bytes: &[u8]) -> Result<(Num, &[u8]), ReadStop>
+fn atom(alloc: Global, bytes: &[u8]) -> Result<(Boxed<Raw>, &[u8]), ReadStop>
     ensures { Reads (λ x. (x.0, x.1.now)) result (spec.atom_at bytes.now) }
 {
     let (word, rest) = word(bytes)?;
     match number_of(alloc, word)? {
-        Some(z) => Ok((Num::Int(z), rest)),
-        None => Ok((Num::Variable(text_of(alloc, word)?), rest)),
+        Some(z) => {
+            let raw = placed(alloc, RawForm::Int(z))?;
+            Ok((raw, rest))
+        }
+        None => {
+            let raw = placed(alloc, RawForm::Name(text_of(alloc, word)?))?;
+            Ok((raw, rest))
+        }
     }
 }
 
 /// Two parts of at most so many levels, and the right parenthesis.
 #[cycle(num)]
 #[tactic(auto, unfolding(crate::specs::Reading::parts_at))]
-fn parts(alloc: Global, room: usize, bytes: &[u8]) -> Result<((Num, Num), &[u8]), ReadStop>
+fn parts(
+    alloc: Global,
+    room: usize,
+    bytes: &[u8],
+) -> Result<((Boxed<Raw>, Boxed<Raw>), &[u8]), ReadStop>
     ensures { Reads (λ x. (x.0, x.1.now)) result (spec.parts_at (spec.num_at room) bytes.now) }
 {
     let (a, rest) = num(alloc, room, bytes)?;
@@ -44,13 +62,18 @@ fn parts(alloc: Global, room: usize, bytes: &[u8]) -> Result<((Num, Num), &[u8])
 }
 
 /// What an operation makes of two parts.
-fn made(operation: Operation, a: Boxed<Num>, b: Boxed<Num>) -> Num
-    ensures { result ≡ spec.made operation a b }
+fn made(
+    alloc: Global,
+    operation: Operation,
+    a: Boxed<Raw>,
+    b: Boxed<Raw>,
+) -> Result<Boxed<Raw>, Memory>
+    ensures { IfOk result (λ raw. raw ≡ spec.made operation a b) }
 {
     match operation {
-        Operation::Add => Num::Add(a, b),
-        Operation::Sub => Num::Sub(a, b),
-        Operation::Mul => Num::Mul(a, b),
+        Operation::Add => placed(alloc, RawForm::Add(a, b)),
+        Operation::Sub => placed(alloc, RawForm::Sub(a, b)),
+        Operation::Mul => placed(alloc, RawForm::Mul(a, b)),
     }
 }
 
@@ -62,18 +85,18 @@ fn form(
     operation: Operation,
     room: usize,
     bytes: &[u8],
-) -> Result<(Num, &[u8]), ReadStop>
+) -> Result<(Boxed<Raw>, &[u8]), ReadStop>
     ensures { Reads (λ x. (x.0, x.1.now)) result (spec.form_at (spec.num_at room) operation bytes.now) }
 {
     let ((a, b), rest) = parts(alloc, room, bytes)?;
-    let num = made(operation, Boxed::new(alloc, a)?, Boxed::new(alloc, b)?);
-    Ok((num, rest))
+    let raw = made(alloc, operation, a, b)?;
+    Ok((raw, rest))
 }
 
 /// An expression of at most so many levels.
 #[cycle(num)]
 #[tactic(auto, unfolding(crate::specs::Reading::num_at))]
-fn num(alloc: Global, room: usize, bytes: &[u8]) -> Result<(Num, &[u8]), ReadStop>
+fn num(alloc: Global, room: usize, bytes: &[u8]) -> Result<(Boxed<Raw>, &[u8]), ReadStop>
     ensures { Reads (λ x. (x.0, x.1.now)) result (spec.num_at room bytes.now) }
 {
     if room == 0 {
@@ -93,7 +116,7 @@ fn num(alloc: Global, room: usize, bytes: &[u8]) -> Result<(Num, &[u8]), ReadSto
 
 /// A test of at most so many levels.
 #[tactic(auto, unfolding(crate::specs::Reading::test_at))]
-fn test(alloc: Global, room: usize, bytes: &[u8]) -> Result<(Test, &[u8]), ReadStop>
+fn test(alloc: Global, room: usize, bytes: &[u8]) -> Result<(Boxed<Raw>, &[u8]), ReadStop>
     ensures { Reads (λ x. (x.0, x.1.now)) result (spec.test_at room bytes.now) }
 {
     if room == 0 {
@@ -101,7 +124,8 @@ fn test(alloc: Global, room: usize, bytes: &[u8]) -> Result<(Test, &[u8]), ReadS
     }
     let rest = expect(b"(lt ", bytes)?;
     let ((a, b), rest) = parts(alloc, room - 1, rest)?;
-    Ok((Test { a, b }, rest))
+    let raw = placed(alloc, RawForm::Lt(a, b))?;
+    Ok((raw, rest))
 }
 
 /// What follows the head of a sink.
@@ -134,7 +158,7 @@ fn map_of(
         name: name_of,
         variable,
         of,
-        e,
+        e: e.into_inner(),
     };
     Ok((item, rest))
 }
@@ -159,7 +183,7 @@ fn filter(
         name: name_of,
         variable,
         of,
-        test,
+        test: test.into_inner(),
     };
     Ok((item, rest))
 }

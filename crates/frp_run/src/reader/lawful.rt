@@ -4,9 +4,10 @@ ghost use Rattle.std.specs.Prelude.{◌≡◌, nat_le, []};
 ghost use Rattle.std.specs.List.{list_any, list_all};
 ghost use Rattle.frp_run.specs.File as grammar;
 
-use crate::file::{File, Item, Num, Sending, Test};
+use crate::file::{File, Item, Sending};
 use crate::reader::words::{is_in_name, is_lower};
 use frp_base::{Seq, Text};
+use frp_expr::{Raw, RawForm};
 
 /// How many levels an expression has at most.
 pub const LEVELS: usize = 16;
@@ -61,45 +62,45 @@ fn fits(z: i64) -> bool
 }
 
 /// Whether an expression has at most so many levels.
-fn has_levels(e: &Num, room: usize) -> bool
+fn has_levels(e: &Raw, room: usize) -> bool
     ensures { result ≡ nat_le (grammar.depth e.now) room }
 {
     if room == 0 {
         return false;
     }
-    match e {
-        Num::Add(a, b) => has_levels(a.get(), room - 1) && has_levels(b.get(), room - 1),
-        Num::Sub(a, b) => has_levels(a.get(), room - 1) && has_levels(b.get(), room - 1),
-        Num::Mul(a, b) => has_levels(a.get(), room - 1) && has_levels(b.get(), room - 1),
+    match &e.form {
+        RawForm::Add(a, b) => has_levels(a.get(), room - 1) && has_levels(b.get(), room - 1),
+        RawForm::Sub(a, b) => has_levels(a.get(), room - 1) && has_levels(b.get(), room - 1),
+        RawForm::Mul(a, b) => has_levels(a.get(), room - 1) && has_levels(b.get(), room - 1),
+        RawForm::Lt(a, b) => has_levels(a.get(), room - 1) && has_levels(b.get(), room - 1),
         _ => true,
     }
 }
 
-/// Whether a test has at most so many levels.
-fn test_has_levels(test: &Test, room: usize) -> bool
-    ensures { result ≡ nat_le (grammar.test_depth test.now) room }
-{
-    room > 0 && has_levels(&test.a, room - 1) && has_levels(&test.b, room - 1)
-}
-
-/// Whether each name of an expression is the variable.
-fn is_over(variable: &Text, e: &Num) -> bool
+/// Whether an expression is for a number, and each name of it is the variable.
+fn is_over(variable: &Text, e: &Raw) -> bool
     ensures { result ≡ grammar.is_over variable.now e.now }
 {
-    match e {
-        Num::Int(z) => fits(*z),
-        Num::Variable(name) => is_text(name, variable),
-        Num::Add(a, b) => is_over(variable, a.get()) && is_over(variable, b.get()),
-        Num::Sub(a, b) => is_over(variable, a.get()) && is_over(variable, b.get()),
-        Num::Mul(a, b) => is_over(variable, a.get()) && is_over(variable, b.get()),
-    }
+    let is_form = match &e.form {
+        RawForm::Int(z) => fits(*z),
+        RawForm::Name(name) => is_text(name, variable),
+        RawForm::Add(a, b) => is_over(variable, a.get()) && is_over(variable, b.get()),
+        RawForm::Sub(a, b) => is_over(variable, a.get()) && is_over(variable, b.get()),
+        RawForm::Mul(a, b) => is_over(variable, a.get()) && is_over(variable, b.get()),
+        _ => false,
+    };
+    is_form && e.at == 0
 }
 
-/// Whether each name of a test is the variable.
-fn test_is_over(variable: &Text, test: &Test) -> bool
-    ensures { result ≡ grammar.test_is_over variable.now test.now }
+/// Whether an expression is a test, and each name of it is the variable.
+fn is_test_over(variable: &Text, test: &Raw) -> bool
+    ensures { result ≡ grammar.is_test_over variable.now test.now }
 {
-    is_over(variable, &test.a) && is_over(variable, &test.b)
+    let is_form = match &test.form {
+        RawForm::Lt(a, b) => is_over(variable, a.get()) && is_over(variable, b.get()),
+        _ => false,
+    };
+    is_form && test.at == 0
 }
 
 /// Whether an item declares this name.
@@ -158,7 +159,7 @@ fn is_stream(name: &Text, items: &[Item]) -> bool
 }
 
 /// Whether a map is lawful after these earlier items.
-fn map_is_lawful(earlier: &[Item], name: &Text, variable: &Text, of: &Text, e: &Num) -> bool
+fn map_is_lawful(earlier: &[Item], name: &Text, variable: &Text, of: &Text, e: &Raw) -> bool
     ensures { result ≡ grammar.item_is_lawful earlier.now (Item.Map name.now variable.now of.now e.now) }
 {
     is_name(name)
@@ -170,13 +171,13 @@ fn map_is_lawful(earlier: &[Item], name: &Text, variable: &Text, of: &Text, e: &
 }
 
 /// Whether a filter is lawful after these earlier items.
-fn filter_is_lawful(earlier: &[Item], name: &Text, variable: &Text, of: &Text, test: &Test) -> bool
+fn filter_is_lawful(earlier: &[Item], name: &Text, variable: &Text, of: &Text, test: &Raw) -> bool
     ensures { result ≡ grammar.item_is_lawful earlier.now (Item.Filter name.now variable.now of.now test.now) }
 {
     is_name(name)
         && is_name(variable)
-        && test_is_over(variable, test)
-        && test_has_levels(test, LEVELS)
+        && is_test_over(variable, test)
+        && has_levels(test, LEVELS)
         && !is_declared(name, earlier)
         && is_stream(of, earlier)
 }
