@@ -225,6 +225,3 @@ fn name_of(item: &Item) -> &Text
         Item::Hold { name, .. } => name,
     }
 }
-
-#[cfg(test)]
-mod tests;
