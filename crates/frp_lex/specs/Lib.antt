@@ -1,0 +1,7 @@
+pub mod Gives
+pub mod Bytes
+pub mod Atoms
+pub mod Quoted
+pub mod Tokens
+pub mod Spelling
+pub mod Laws

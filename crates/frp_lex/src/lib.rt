@@ -1,8 +1,15 @@
 //! The tokens of a list of bytes, and the one line that tokens are written on.
 #![tactic(auto)]
 
+mod atom;
+mod bytes;
 mod fault;
+mod front;
+mod lexer;
+mod number;
+mod quoted;
 mod token;
 
 pub use fault::{Lex, LexKind, LexStop};
+pub use lexer::lex;
 pub use token::{Kind, Token};

@@ -1,0 +1,7 @@
+use Rattle.std.proofs.Common.{◌≡◌, ◌+◌, drop}
+use Rattle.std.specs.List.{prefix_len}
+use Rattle.frp_lex.specs.Bytes.{is_in_atom}
+use Rattle.frp_lex.proofs.front.atom_len.Given as goal
+
+abbrev pub invariant-loop-i : goal.invariant-loop-i
+invariant-loop-i l = l.i + prefix_len is_in_atom (drop l.i l.bytes) ≡ prefix_len is_in_atom l.bytes

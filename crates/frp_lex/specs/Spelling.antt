@@ -1,0 +1,65 @@
+-- How tokens are written: the one spelling of each, and the line that they stand on.
+use Rattle.std.specs.Prelude.{ℕ, Bool, true, false, ◌&&◌, ◌||◌, if◌then◌else◌, nat_le, List, [], ◌∷◌, ◌++◌, map, length, Ok, Err}
+use Rattle.std.specs.List.{list_all}
+use Rattle.std.specs.Fmt.{signed_decimal}
+use Rattle.frp_base.specs.Val.{escaped}
+use Rattle.frp_lex.specs.declared.token.Kind.{Kind}
+use Rattle.frp_lex.specs.declared.token.Kind.TheVariants as k
+use Rattle.frp_lex.specs.declared.token.Token.{Token}
+use Rattle.frp_lex.specs.Gives.{Outcome, ◌>>=◌}
+use Rattle.frp_lex.specs.Bytes.{is_in_text}
+use Rattle.frp_lex.specs.Atoms.{fits, is_name, name_most, is_word}
+use Rattle.frp_lex.specs.Quoted.{text_most}
+
+-- the spelling of a token
+abbrev pub spelled : Kind → List ℕ
+spelled k.Left = 40 ∷ []
+spelled k.Right = 41 ∷ []
+spelled (k.Name t) = t
+spelled (k.Word t) = t
+spelled (k.Num z) = signed_decimal z
+spelled (k.Str t) = 34 ∷ escaped t ++ 34 ∷ []
+
+abbrev pub is_left : Kind → Bool
+is_left k.Left = true
+is_left _ = false
+
+abbrev pub is_right : Kind → Bool
+is_right k.Right = true
+is_right _ = false
+
+-- what stands between two tokens: a space, and nothing after `(` and before `)`
+abbrev pub gap : Kind → Kind → List ℕ
+gap t u = if is_left t || is_right u then [] else 32 ∷ []
+
+-- what follows a token
+abbrev pub after : Kind → List Kind → List ℕ
+after t [] = []
+after t (u ∷ us) = gap t u ++ spelled u ++ after u us
+
+-- tokens on one line
+abbrev pub spelling : List Kind → List ℕ
+spelling [] = []
+spelling (t ∷ ts) = spelled t ++ after t ts
+
+abbrev pub kind_of : Token → Kind
+kind_of t = t.kind
+
+-- tokens without their places
+abbrev pub kinds : List Token → List Kind
+kinds = map kind_of
+
+abbrev pub kinds_read : Outcome (List Token) → Outcome (List Kind)
+kinds_read outcome = outcome >>= λ ts. Ok (kinds ts)
+
+-- what a token of some input can be
+abbrev pub is_lawful : Kind → Bool
+is_lawful k.Left = true
+is_lawful k.Right = true
+is_lawful (k.Name t) = is_name t && nat_le (length t) name_most
+is_lawful (k.Word t) = is_word t
+is_lawful (k.Num z) = fits z
+is_lawful (k.Str t) = list_all is_in_text t && nat_le (length t) text_most
+
+abbrev pub are_lawful : List Kind → Bool
+are_lawful = list_all is_lawful
