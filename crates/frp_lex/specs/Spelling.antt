@@ -28,9 +28,13 @@ abbrev pub is_right : Kind → Bool
 is_right k.Right = true
 is_right _ = false
 
--- what stands between two tokens: a space, and nothing after `(` and before `)`
+-- nothing stands after `(` and before `)`
+abbrev pub are_tight : Kind → Kind → Bool
+are_tight t u = is_left t || is_right u
+
+-- what stands between two other tokens is a space
 abbrev pub gap : Kind → Kind → List ℕ
-gap t u = if is_left t || is_right u then [] else 32 ∷ []
+gap t u = if are_tight t u then [] else 32 ∷ []
 
 -- what follows a token
 abbrev pub after : Kind → List Kind → List ℕ

@@ -8,8 +8,10 @@ mod front;
 mod lexer;
 mod number;
 mod quoted;
+mod speller;
 mod token;
 
 pub use fault::{Lex, LexKind, LexStop};
 pub use lexer::lex;
+pub use speller::spell;
 pub use token::{Kind, Token};
