@@ -7,15 +7,12 @@ use Rattle.std.proofs.lemmas.Grind.{common_steps}
 use Rattle.frp_lex.specs.Bytes.{is_lower, is_upper, is_letter, is_in_name, is_in_text, is_escaped}
 use Rattle.frp_lex.specs.Atoms.{is_name, is_word}
 use Rattle.frp_lex.specs.Quoted.{first_bad}
-
-pub both : (a b : Bool) → (a && b) ≡ true → (a ≡ true) × (b ≡ true)
-both true b h = (refl, h)
-both false b h = absurd cc
+use Rattle.frp_lex.proofs.Tests.{both_true}
 
 all_ascii : (p : ℕ → Bool) → ((b : ℕ) → p b ≡ true → b < 128) → (bs : List ℕ) → list_all p bs ≡ true → IsAscii bs
 all_ascii p below [] h i = omega arith
-all_ascii p below (b ∷ bs) h zero = below b (both (p b) (list_all p bs) h).0
-all_ascii p below (b ∷ bs) h (suc i) = all_ascii p below bs (both (p b) (list_all p bs) h).1 i
+all_ascii p below (b ∷ bs) h zero = below b (both_true (p b) (list_all p bs) h).0
+all_ascii p below (b ∷ bs) h (suc i) = all_ascii p below bs (both_true (p b) (list_all p bs) h).1 i
 
 lower_below : (b : ℕ) → is_lower b ≡ true → b < 128
 lower_below b h = grind (arith, common_steps)
@@ -37,13 +34,13 @@ escaped_below b h = grind (arith, common_steps)
 
 pub name_is_ascii : (bs : List ℕ) → is_name bs ≡ true → IsAscii bs
 name_is_ascii [] h i = omega arith
-name_is_ascii (b ∷ bs) h zero = lower_below b (both (is_lower b) (list_all is_in_name bs) h).0
-name_is_ascii (b ∷ bs) h (suc i) = all_ascii is_in_name in_name_below bs (both (is_lower b) (list_all is_in_name bs) h).1 i
+name_is_ascii (b ∷ bs) h zero = lower_below b (both_true (is_lower b) (list_all is_in_name bs) h).0
+name_is_ascii (b ∷ bs) h (suc i) = all_ascii is_in_name in_name_below bs (both_true (is_lower b) (list_all is_in_name bs) h).1 i
 
 pub word_is_ascii : (bs : List ℕ) → is_word bs ≡ true → IsAscii bs
 word_is_ascii [] h i = omega arith
-word_is_ascii (b ∷ bs) h zero = upper_below b (both (is_upper b) (list_all is_letter bs) h).0
-word_is_ascii (b ∷ bs) h (suc i) = all_ascii is_letter letter_below bs (both (is_upper b) (list_all is_letter bs) h).1 i
+word_is_ascii (b ∷ bs) h zero = upper_below b (both_true (is_upper b) (list_all is_letter bs) h).0
+word_is_ascii (b ∷ bs) h (suc i) = all_ascii is_letter letter_below bs (both_true (is_upper b) (list_all is_letter bs) h).1 i
 
 good_by : (e : Bool) (n b : ℕ) (bs : List ℕ) (q s : Bool) → is_in_text b ≡ q → is_escaped b ≡ s → first_bad e n (b ∷ bs) ≡ None → ((e : Bool) (n : ℕ) → first_bad e n bs ≡ None → IsAscii bs) → IsAscii (b ∷ bs)
 good_by true n b bs q true p r h ih zero = escaped_below b r

@@ -5,6 +5,7 @@ mod atom;
 mod bytes;
 mod fault;
 mod front;
+mod laws;
 mod lexer;
 mod number;
 mod quoted;
@@ -12,6 +13,7 @@ mod speller;
 mod token;
 
 pub use fault::{Lex, LexKind, LexStop};
+pub use laws::spelled_is_lexed;
 pub use lexer::lex;
 pub use speller::spell;
 pub use token::{Kind, Token};

@@ -1,0 +1,33 @@
+-- Tests, and runs of bytes that pass one.
+use Rattle.std.proofs.Common.{◌≡◌, ℕ, zero, suc, ◌+◌, Bool, true, false, List, [], ◌∷◌, ◌++◌, length, take, refl, arith}
+use Rattle.std.specs.Prelude.{◌&&◌, not}
+use Rattle.std.specs.List.{list_all, prefix_len}
+
+pub both_true : (a b : Bool) → a && b ≡ true → (a ≡ true) × (b ≡ true)
+both_true true b h = (refl, h)
+both_true false b h = absurd cc
+
+pub true_both : (a b : Bool) → a ≡ true → b ≡ true → a && b ≡ true
+true_both a b p q = rw (p, q) refl
+
+-- the first of these bytes doesn't pass, where there is one
+abbrev pub ends : (ℕ → Bool) → List ℕ → Bool
+ends p [] = true
+ends p (b ∷ bs) = not (p b)
+
+not_true : (b : Bool) → not b ≡ true → b ≡ false
+not_true true h = absurd cc
+not_true false h = refl
+
+-- a run ends where what follows doesn't pass
+pub run : (p : ℕ → Bool) (xs rest : List ℕ) → list_all p xs ≡ true → ends p rest ≡ true → prefix_len p (xs ++ rest) ≡ length xs
+run p [] [] h e = refl
+run p [] (b ∷ rest) h e = rw (not_true (p b) e) refl
+run p (x ∷ xs) rest h e =
+    let q = both_true (p x) (list_all p xs) h in
+    rw q.0 (let k : prefix_len p (xs ++ rest) ≡ length xs = run p xs rest q.1 e in omega arith)
+
+-- all pass a test that another test implies
+pub all_pass : (p q : ℕ → Bool) → ((b : ℕ) → p b ≡ true → q b ≡ true) → (xs : List ℕ) → list_all p xs ≡ true → list_all q xs ≡ true
+all_pass p q more [] h = refl
+all_pass p q more (x ∷ xs) h = let r = both_true (p x) (list_all p xs) h in true_both (q x) (list_all q xs) (more x r.0) (all_pass p q more xs r.1)
