@@ -14,6 +14,7 @@ use Rattle.frp_lex.specs.Atoms.{fits, number, is_name, is_word, positive, negati
 use Rattle.frp_lex.specs.Quoted.{closing, first_bad, unescaped, text_most}
 use Rattle.frp_lex.specs.Tokens.{Piece, atom, atom_from, atom_piece, text, text_closed, text_inside, front}
 use Rattle.frp_lex.specs.Spelling.{spelled, is_lawful}
+use Rattle.frp_lex.specs.Written.{ends_atom, is_parted}
 use Rattle.frp_lex.proofs.Tests.{both_true, true_both, ends, run, all_pass}
 use Rattle.frp_lex.proofs.Numbers.{digits_decimal, decimal_some, positive_decimal, negative_decimal}
 use Rattle.frp_lex.proofs.Quotes.{closes, unescapes, good}
@@ -30,28 +31,32 @@ AtomByte b = (is_blank b ≡ false) × ((b == 59) ≡ false) × ((b == 40) ≡ f
 atom_byte : (b : ℕ) → is_in_atom b ≡ true → AtomByte b
 atom_byte b h = (grind (arith, common_steps), grind (arith, common_steps), grind (arith, common_steps), grind (arith, common_steps), grind (arith, common_steps))
 
-pub atom_front : (at b : ℕ) (bs rest : List ℕ) → list_all is_in_atom (b ∷ bs) ≡ true → ends is_in_atom rest ≡ true → front at b (bs ++ rest) ≡ atom_piece at (b ∷ bs)
+atom_ends : (rest : List ℕ) → ends_atom rest ≡ true → ends is_in_atom rest ≡ true
+atom_ends [] e = refl
+atom_ends (b ∷ rest) e = e
+
+pub atom_front : (at b : ℕ) (bs rest : List ℕ) → list_all is_in_atom (b ∷ bs) ≡ true → ends_atom rest ≡ true → front at b (bs ++ rest) ≡ atom_piece at (b ∷ bs)
 unfolding front
 atom_front at b bs rest h e =
     let p = both_true (is_in_atom b) (list_all is_in_atom bs) h in
     let q = atom_byte b p.0 in
-    let m : prefix_len is_in_atom (bs ++ rest) ≡ length bs = run is_in_atom bs rest p.1 e in
+    let m : prefix_len is_in_atom (bs ++ rest) ≡ length bs = run is_in_atom bs rest p.1 (atom_ends rest e) in
     let n : 1 + prefix_len is_in_atom (bs ++ rest) ≡ length (b ∷ bs) = omega arith in
     rw (q.0, q.1, q.2, q.3, q.4, p.0) (ap (λ i. atom_piece at (take i (b ∷ bs ++ rest))) n ∙ ap (atom_piece at) (take-append_seam (b ∷ bs) rest))
 
-name_in_atom : (b : ℕ) → is_in_name b ≡ true → is_in_atom b ≡ true
+pub name_in_atom : (b : ℕ) → is_in_name b ≡ true → is_in_atom b ≡ true
 name_in_atom b h = grind (arith, common_steps)
 
-letter_in_atom : (b : ℕ) → is_letter b ≡ true → is_in_atom b ≡ true
+pub letter_in_atom : (b : ℕ) → is_letter b ≡ true → is_in_atom b ≡ true
 letter_in_atom b h = grind (arith, common_steps)
 
-digit_in_atom : (b : ℕ) → is_digit b ≡ true → is_in_atom b ≡ true
+pub digit_in_atom : (b : ℕ) → is_digit b ≡ true → is_in_atom b ≡ true
 digit_in_atom b h = grind (arith, common_steps)
 
-lower_in_name : (b : ℕ) → is_lower b ≡ true → is_in_name b ≡ true
+pub lower_in_name : (b : ℕ) → is_lower b ≡ true → is_in_name b ≡ true
 lower_in_name b h = grind (arith, common_steps)
 
-upper_is_letter : (b : ℕ) → is_upper b ≡ true → is_letter b ≡ true
+pub upper_is_letter : (b : ℕ) → is_upper b ≡ true → is_letter b ≡ true
 upper_is_letter b h = grind (arith, common_steps)
 
 lower_no_number : (b : ℕ) → is_lower b ≡ true → (is_digit b || b == 45) ≡ false
@@ -68,7 +73,7 @@ digit_no_minus b h = grind (arith, common_steps)
 
 -- how an atom that is spelled so is read
 abbrev IsRead : Kind → List ℕ → Type 0
-IsRead kind bs = (at : ℕ) (rest : List ℕ) → ends is_in_atom rest ≡ true → front_of at (bs ++ rest) ≡ Ok (Some kind, length bs)
+IsRead kind bs = (at : ℕ) (rest : List ℕ) → ends_atom rest ≡ true → front_of at (bs ++ rest) ≡ Ok (Some kind, length bs)
 
 name_read : (t : List ℕ) → is_lawful (k.Name t) ≡ true → IsRead (k.Name t) t
 unfolding atom_from
@@ -125,13 +130,6 @@ text_read t h at rest =
     rw (append_assoc (escaped t) (34 ∷ []) rest) (text_piece at t rest p.0 p.1 ∙ ap (λ i. Ok (Some (k.Str t), i)) n)
 
 -- ---- all tokens
-
--- what follows an atom is no byte of an atom
-abbrev pub is_parted : Kind → List ℕ → Bool
-is_parted (k.Name t) rest = ends is_in_atom rest
-is_parted (k.Word t) rest = ends is_in_atom rest
-is_parted (k.Num z) rest = ends is_in_atom rest
-is_parted _ rest = true
 
 pub kind_read : (kind : Kind) → is_lawful kind ≡ true → (at : ℕ) (rest : List ℕ) → is_parted kind rest ≡ true → front_of at (spelled kind ++ rest) ≡ Ok (Some kind, length (spelled kind))
 unfolding front

@@ -5,3 +5,6 @@ pub mod Reading
 pub mod Quotes
 pub mod Fronts
 pub mod Spelled
+pub mod Pieces
+pub mod Gaps
+pub mod Written

@@ -1,10 +1,12 @@
 -- Numbers that digits write.
-use Rattle.std.proofs.Common.{◌≡◌, ℕ, zero, suc, ◌+◌, ◌-◌, ◌*◌, ◌/◌, ◌%◌, ◌^◌, ◌<◌, ◌≤◌, Bool, true, false, List, [], ◌∷◌, ◌++◌, length, length-append, drop, Some, None, refl, ◌∙◌, arith}
+use Rattle.std.proofs.Common.{◌≡◌, ℕ, zero, suc, ◌+◌, ◌-◌, ◌*◌, ◌/◌, ◌%◌, ◌^◌, ◌<◌, ◌≤◌, Bool, true, false, List, [], ◌∷◌, ◌++◌, length, length-append, drop, get_or, Option, Some, None, refl, sym, ap, ◌∙◌, arith, rules}
 use Rattle.std.specs.Prelude.{pos, neg_ℤ, negsuc, ℤ, ◌==◌, ◌&&◌, ◌||◌, not}
 use Rattle.std.specs.List.{list_all}
-use Rattle.std.specs.Fmt.{decimal}
+use Rattle.std.specs.Fmt.{decimal, signed_decimal}
 use Rattle.std.specs.Str.{bytes_eq}
-use Rattle.std.proofs.lemmas.Fmt.{decimal_by_steps}
+use Rattle.std.proofs.lemmas.Fmt.{decimal_by_steps, decimal-digits_value}
+use Rattle.std.proofs.lemmas.Str.Parse.{IsNumeralModel, numerals_by_fold}
+use Rattle.std.proofs.lemmas.Slice.Eq.{bytes_eq-Decides}
 use Rattle.std.proofs.lemmas.List.Folds.{list_all-append}
 use Rattle.std.proofs.Math.Bool.{or-true}
 use Rattle.std.proofs.lemmas.Grind.{common_steps}
@@ -78,3 +80,86 @@ negative_decimal n lt =
     let p : is_plain (decimal (suc n)) ≡ true = (numeral (suc n) (omega arith)).1 (omega arith) in
     let v : value (decimal (suc n)) ≡ suc n = value_decimal (suc n) (omega arith) in
     rw (p, v) (negated (suc n) (omega arith))
+
+-- ---- a number is spelled as it is read
+
+own : IsNumeralModel (λ ds. list_all is_digit ds ≡ true) value
+own = numerals_by_fold _ (search rules) value_from (search rules)
+
+if_fits_by : (y z : ℤ) (b : Bool) → fits y ≡ b → if_fits y ≡ Some z → (y ≡ z) × (fits z ≡ true)
+if_fits_by y z true e h = let f : y ≡ z = let g = rw e at h in cc in (f, ap fits (sym f) ∙ e)
+if_fits_by y z false e h = absurd (let f = rw e at h in cc)
+
+if_fits_is : (y z : ℤ) → if_fits y ≡ Some z → (y ≡ z) × (fits z ≡ true)
+if_fits_is y z h = if_fits_by y z (fits y) refl h
+
+plain_first : (bs : List ℕ) → is_plain bs ≡ true → get_or bs 0 0 ≡ 48 → length bs ≡ 1
+plain_first [] h e = absurd cc
+plain_first (b ∷ bs) h e = let p = both_true (not (b == 48)) (list_all is_digit (b ∷ bs)) h in absurd (grind (arith, common_steps))
+
+plain_digits : (bs : List ℕ) → is_plain bs ≡ true → list_all is_digit bs ≡ true
+plain_digits [] h = absurd cc
+plain_digits (b ∷ bs) h = (both_true (not (b == 48)) (list_all is_digit (b ∷ bs)) h).1
+
+plain_some : (bs : List ℕ) → is_plain bs ≡ true → 0 < length bs
+plain_some [] h = absurd cc
+plain_some (b ∷ bs) h = omega arith
+
+plain_spelled : (bs : List ℕ) → is_plain bs ≡ true → value bs < 2 ^ 64 → decimal (value bs) ≡ bs
+plain_spelled bs h lt = decimal-digits_value own bs (plain_digits bs h) (plain_some bs h) (plain_first bs h) lt
+
+fits_below : (n : ℕ) → fits (pos n) ≡ true → n < 2 ^ 63
+fits_below n h = grind (arith, common_steps)
+
+-- how a number is spelled that an atom is read as
+abbrev pub IsSpelled : ℤ → List ℕ → Type 0
+IsSpelled z bs = (fits z ≡ true) × (signed_decimal z ≡ bs)
+
+positive_by : (bs : List ℕ) (z : ℤ) (q p : Bool) → bytes_eq bs (48 ∷ []) ≡ q → is_plain bs ≡ p → positive bs ≡ Some z → IsSpelled z bs
+unfolding positive
+positive_by bs z true p e d h =
+    let is : bs ≡ 48 ∷ [] = (bytes_eq-Decides bs (48 ∷ [])).0 e in
+    let f : if_fits (pos (value bs)) ≡ Some z = rw e at h in
+    let g = if_fits_is (pos (value bs)) z f in
+    let v : value bs ≡ 0 = ap value is in
+    let w : z ≡ pos 0 = sym g.0 ∙ ap pos v in
+    (g.1, rw (w, is) ((numeral 0 (omega arith)).0 refl))
+positive_by bs z false true e d h =
+    let f : if_fits (pos (value bs)) ≡ Some z = rw (e, d) at h in
+    let g = if_fits_is (pos (value bs)) z f in
+    let lt : value bs < 2 ^ 63 = fits_below (value bs) (ap fits g.0 ∙ g.1) in
+    (g.1, rw (sym g.0) (plain_spelled bs d (omega arith)))
+positive_by bs z false false e d h = absurd (let f = rw (e, d) at h in cc)
+
+negated_spelled : (n : ℕ) (z : ℤ) (bs : List ℕ) → 0 < n → neg_ℤ (pos n) ≡ z → fits z ≡ true → (n < 2 ^ 64 → decimal n ≡ bs) → IsSpelled z (45 ∷ bs)
+negated_spelled zero z bs some e f h = absurd (omega arith)
+negated_spelled (suc n) z bs some e f h =
+    let lt : n < 2 ^ 63 = let g : fits (negsuc n) ≡ true = ap fits e ∙ f in grind (arith, common_steps) in
+    (f, rw (sym e) (ap (λ (ds : List ℕ). 45 ∷ ds) (h (omega arith))))
+
+plain_above : (bs : List ℕ) → is_plain bs ≡ true → 0 < value bs
+plain_above [] h = absurd cc
+plain_above (b ∷ bs) h =
+    let p = both_true (not (b == 48)) (list_all is_digit (b ∷ bs)) h in
+    let q = both_true (is_digit b) (list_all is_digit bs) p.1 in
+    let some : 48 < b = grind (arith, common_steps) in
+    omega (arith, value_above (10 * 0 + (b - 48)) bs)
+
+negative_by : (bs : List ℕ) (z : ℤ) (p : Bool) → is_plain bs ≡ p → negative bs ≡ Some z → IsSpelled z (45 ∷ bs)
+unfolding negative
+negative_by bs z true d h =
+    let f : if_fits (neg_ℤ (pos (value bs))) ≡ Some z = rw d at h in
+    let g = if_fits_is (neg_ℤ (pos (value bs))) z f in
+    negated_spelled (value bs) z bs (plain_above bs d) g.0 g.1 (plain_spelled bs d)
+negative_by bs z false d h = absurd (let f = rw d at h in cc)
+
+number_by : (b : ℕ) (bs : List ℕ) (z : ℤ) (q : Bool) → (b == 45) ≡ q → number (b ∷ bs) ≡ Some z → IsSpelled z (b ∷ bs)
+number_by b bs z true e h =
+    let is : b ≡ 45 = grind (arith, common_steps) in
+    let r = negative_by bs z (is_plain bs) refl (rw e at h) in
+    (r.0, r.1 ∙ ap (λ (c : ℕ). c ∷ bs) (sym is))
+number_by b bs z false e h = positive_by (b ∷ bs) z (bytes_eq (b ∷ bs) (48 ∷ [])) (is_plain (b ∷ bs)) refl refl (rw e at h)
+
+pub number_spelled : (bs : List ℕ) (z : ℤ) → number bs ≡ Some z → IsSpelled z bs
+number_spelled [] z h = absurd cc
+number_spelled (b ∷ bs) z h = number_by b bs z (b == 45) refl h

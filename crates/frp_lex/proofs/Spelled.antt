@@ -6,13 +6,13 @@ use Rattle.frp_lex.specs.declared.token.Kind.{Kind}
 use Rattle.frp_lex.specs.declared.token.Kind.TheVariants as k
 use Rattle.frp_lex.specs.declared.token.Token.{Token}
 use Rattle.frp_lex.specs.Gives.{Outcome, ◌>>=◌}
-use Rattle.frp_lex.specs.Bytes.{is_in_atom}
 use Rattle.frp_lex.specs.Tokens.{token_at, tokens_from, tokens, front}
 use Rattle.frp_lex.specs.Spelling.{spelled, is_left, are_tight, gap, after, spelling, kinds_read, is_lawful, are_lawful}
+use Rattle.frp_lex.specs.Written.{ends_atom, is_parted}
 use Rattle.frp_lex.specs.Laws.{SpelledIsLexed}
-use Rattle.frp_lex.proofs.Tests.{both_true, ends}
+use Rattle.frp_lex.proofs.Tests.{both_true}
 use Rattle.frp_lex.proofs.Reading.{one_piece}
-use Rattle.frp_lex.proofs.Fronts.{front_of, is_parted, kind_read, kind_some}
+use Rattle.frp_lex.proofs.Fronts.{front_of, kind_read, kind_some}
 
 -- the token at the front is read, and then what follows it
 pub token_read : (kind : Kind) → is_lawful kind ≡ true → (at : ℕ) (rest : List ℕ) → is_parted kind rest ≡ true
@@ -31,7 +31,7 @@ space_read : (at : ℕ) (rest : List ℕ) → tokens_from 0 at (32 ∷ rest) ≡
 unfolding front
 space_read at rest = all_of (tokens_from 0 (at + 1) rest)
 
-atom_parted : (t : Kind) (us : List Kind) → is_left t ≡ false → ends is_in_atom (after t us) ≡ true
+atom_parted : (t : Kind) (us : List Kind) → is_left t ≡ false → ends_atom (after t us) ≡ true
 atom_parted t [] h = refl
 atom_parted t (k.Left ∷ us) h = rw h refl
 atom_parted t (k.Right ∷ us) h = rw h refl

@@ -1,5 +1,5 @@
 -- Tests, and runs of bytes that pass one.
-use Rattle.std.proofs.Common.{◌≡◌, ℕ, zero, suc, ◌+◌, Bool, true, false, List, [], ◌∷◌, ◌++◌, length, take, refl, arith}
+use Rattle.std.proofs.Common.{◌≡◌, ℕ, zero, suc, ◌+◌, Bool, true, false, List, [], ◌∷◌, ◌++◌, length, take, drop, refl, ap, ◌∙◌, sym, arith}
 use Rattle.std.specs.Prelude.{◌&&◌, not}
 use Rattle.std.specs.List.{list_all, prefix_len}
 
@@ -31,3 +31,21 @@ run p (x ∷ xs) rest h e =
 pub all_pass : (p q : ℕ → Bool) → ((b : ℕ) → p b ≡ true → q b ≡ true) → (xs : List ℕ) → list_all p xs ≡ true → list_all q xs ≡ true
 all_pass p q more [] h = refl
 all_pass p q more (x ∷ xs) h = let r = both_true (p x) (list_all p xs) h in true_both (q x) (list_all q xs) (more x r.0) (all_pass p q more xs r.1)
+
+-- ---- the longest run
+
+run_passes_by : (p : ℕ → Bool) (x : ℕ) (xs : List ℕ) (b : Bool) → p x ≡ b → list_all p (take (prefix_len p xs) xs) ≡ true → list_all p (take (prefix_len p (x ∷ xs)) (x ∷ xs)) ≡ true
+run_passes_by p x xs true h ih = rw h (let e : 1 + prefix_len p xs ≡ suc (prefix_len p xs) = omega arith in rw e (true_both (p x) (list_all p (take (prefix_len p xs) xs)) h ih))
+run_passes_by p x xs false h ih = rw h refl
+
+run_ends_by : (p : ℕ → Bool) (x : ℕ) (xs : List ℕ) (b : Bool) → p x ≡ b → ends p (drop (prefix_len p xs) xs) ≡ true → ends p (drop (prefix_len p (x ∷ xs)) (x ∷ xs)) ≡ true
+run_ends_by p x xs true h ih = rw h (let e : 1 + prefix_len p xs ≡ suc (prefix_len p xs) = omega arith in rw e ih)
+run_ends_by p x xs false h ih = rw h (rw h refl)
+
+pub run_passes : (p : ℕ → Bool) (xs : List ℕ) → list_all p (take (prefix_len p xs) xs) ≡ true
+run_passes p [] = refl
+run_passes p (x ∷ xs) = run_passes_by p x xs (p x) refl (run_passes p xs)
+
+pub run_ends : (p : ℕ → Bool) (xs : List ℕ) → ends p (drop (prefix_len p xs) xs) ≡ true
+run_ends p [] = refl
+run_ends p (x ∷ xs) = run_ends_by p x xs (p x) refl (run_ends p xs)

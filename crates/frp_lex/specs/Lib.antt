@@ -4,4 +4,5 @@ pub mod Atoms
 pub mod Quoted
 pub mod Tokens
 pub mod Spelling
+pub mod Written
 pub mod Laws
