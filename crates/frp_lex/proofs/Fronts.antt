@@ -1,6 +1,6 @@
 -- A lawful token is read at the front of its spelling, whatever follows that is no part of it.
-use Rattle.std.proofs.Common.{◌≡◌, ℕ, zero, suc, ◌+◌, ◌-◌, ◌^◌, ◌<◌, ◌≤◌, Bool, true, false, List, [], ◌∷◌, ◌++◌, length, take, drop, Some, None, Ok, Err, refl, sym, ap, ◌∙◌, append_assoc, length-append, arith}
-use Rattle.std.specs.Prelude.{ℤ, pos, negsuc, ◌==◌, ◌&&◌, ◌||◌, not, nat_le, nat_lt, slice_index}
+use Rattle.std.proofs.Common.{◌≡◌, ℕ, suc, ◌+◌, ◌^◌, ◌<◌, ◌≤◌, true, false, List, [], ◌∷◌, ◌++◌, length, take, drop, Some, Ok, refl, ap, ◌∙◌, append_assoc, length-append, arith}
+use Rattle.std.specs.Prelude.{ℤ, pos, negsuc, ◌==◌, ◌||◌, nat_le, slice_index}
 use Rattle.std.specs.List.{list_all, prefix_len}
 use Rattle.std.specs.Fmt.{decimal, signed_decimal}
 use Rattle.std.proofs.Math.Seq.{take-append_seam}
@@ -8,11 +8,11 @@ use Rattle.std.proofs.lemmas.Grind.{common_steps}
 use Rattle.frp_base.specs.Val.{escaped}
 use Rattle.frp_lex.specs.declared.token.Kind.{Kind}
 use Rattle.frp_lex.specs.declared.token.Kind.TheVariants as k
-use Rattle.frp_lex.specs.Gives.{Outcome, ◌>>=◌}
+use Rattle.frp_lex.specs.Gives.{Outcome}
 use Rattle.frp_lex.specs.Bytes.{is_blank, is_lower, is_upper, is_letter, is_digit, is_in_name, is_in_atom, is_in_text}
-use Rattle.frp_lex.specs.Atoms.{fits, number, is_name, is_word, positive, negative, name_most}
-use Rattle.frp_lex.specs.Quoted.{closing, first_bad, unescaped, text_most}
-use Rattle.frp_lex.specs.Tokens.{Piece, atom, atom_from, atom_piece, text, text_closed, text_inside, front}
+use Rattle.frp_lex.specs.Atoms.{fits, is_name, positive, negative, name_most}
+use Rattle.frp_lex.specs.Quoted.{closing, text_most}
+use Rattle.frp_lex.specs.Tokens.{Piece, atom_from, atom_piece, text, front}
 use Rattle.frp_lex.specs.Spelling.{spelled, is_lawful}
 use Rattle.frp_lex.specs.Written.{ends_atom, is_parted}
 use Rattle.frp_lex.proofs.Tests.{both_true, true_both, ends, run, all_pass}

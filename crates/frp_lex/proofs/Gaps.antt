@@ -1,14 +1,11 @@
 -- Blanks and comments are passed over.
-use Rattle.std.proofs.Common.{◌≡◌, ℕ, zero, suc, ◌+◌, ◌-◌, Bool, true, false, List, [], ◌∷◌, ◌++◌, length, drop, Option, Some, None, Ok, Err, refl, sym, ap, ◌∙◌, add-zero, arith}
-use Rattle.std.specs.Prelude.{◌==◌, not, if◌then◌else◌}
-use Rattle.std.specs.List.{list_all, prefix_len}
+use Rattle.std.proofs.Common.{◌≡◌, ℕ, suc, ◌+◌, ◌-◌, Bool, true, false, List, [], ◌∷◌, ◌++◌, length, Option, Some, refl, sym, ap, ◌∙◌, add-zero, arith}
+use Rattle.std.specs.Prelude.{◌==◌, if◌then◌else◌}
+use Rattle.std.specs.List.{prefix_len}
 use Rattle.std.proofs.lemmas.Grind.{common_steps}
-use Rattle.frp_lex.specs.declared.token.Token.{Token}
-use Rattle.frp_lex.specs.Gives.{Outcome, ◌>>=◌}
 use Rattle.frp_lex.specs.Bytes.{is_blank, is_in_comment}
 use Rattle.frp_lex.specs.Tokens.{tokens_from, front}
 use Rattle.frp_lex.specs.Written.{comment_after}
-use Rattle.frp_lex.proofs.Tests.{both_true, ends}
 use Rattle.frp_lex.proofs.Spelled.{all_of}
 
 -- how many bytes are left of a comment that goes on

@@ -8,3 +8,4 @@ pub mod Spelled
 pub mod Pieces
 pub mod Gaps
 pub mod Written
+pub mod Canonical

@@ -1,6 +1,6 @@
 -- What stands at the front of bytes that are read: a token in its spelling, a blank or a comment.
-use Rattle.std.proofs.Common.{◌≡◌, ℕ, zero, suc, ◌+◌, ◌-◌, ◌<◌, ◌≤◌, Bool, true, false, ◌⊎◌, inl, inr, List, [], ◌∷◌, ◌++◌, length, take, drop, Option, Some, None, Result, Ok, Err, refl, sym, ap, ◌∙◌, subst, append_assoc, length-append, arith}
-use Rattle.std.specs.Prelude.{ℤ, pos, negsuc, ◌==◌, ◌&&◌, ◌||◌, nat_le, slice_index, if◌then◌else◌}
+use Rattle.std.proofs.Common.{◌≡◌, ℕ, ◌+◌, Bool, true, false, ◌⊎◌, inl, inr, List, [], ◌∷◌, ◌++◌, length, take, drop, Option, Some, None, Ok, Err, refl, sym, ap, ◌∙◌, subst, append_assoc, length-append, arith}
+use Rattle.std.specs.Prelude.{ℤ, ◌==◌, ◌||◌, nat_le, slice_index}
 use Rattle.std.specs.List.{list_all, prefix_len}
 use Rattle.std.proofs.Math.Seq.{take-append_seam}
 use Rattle.std.proofs.lemmas.List.{take-append-drop}
@@ -10,15 +10,15 @@ use Rattle.frp_base.specs.Val.{escaped}
 use Rattle.frp_lex.specs.declared.token.Kind.{Kind}
 use Rattle.frp_lex.specs.declared.token.Kind.TheVariants as k
 use Rattle.frp_lex.specs.Gives.{Outcome, ◌>>=◌}
-use Rattle.frp_lex.specs.Bytes.{is_blank, is_lower, is_digit, is_in_atom, is_in_comment, is_in_text}
+use Rattle.frp_lex.specs.Bytes.{is_blank, is_digit, is_in_atom, is_in_comment, is_in_text}
 use Rattle.frp_lex.specs.Atoms.{number, is_name, is_word, name_most}
 use Rattle.frp_lex.specs.Quoted.{closing, first_bad, unescaped, text_most}
 use Rattle.frp_lex.specs.Tokens.{Piece, number_or_fault, atom, atom_from, atom_piece, text, text_closed, text_inside, front}
 use Rattle.frp_lex.specs.Spelling.{spelled, is_lawful}
 use Rattle.frp_lex.specs.Written.{ends_atom, is_parted}
-use Rattle.frp_lex.proofs.Tests.{both_true, true_both, ends, run_passes, run_ends}
+use Rattle.frp_lex.proofs.Tests.{true_both, ends, run_passes, run_ends}
 use Rattle.frp_lex.proofs.Numbers.{number_spelled}
-use Rattle.frp_lex.proofs.Quotes.{Closed, closed, is_inside, is_value}
+use Rattle.frp_lex.proofs.Quotes.{closed, is_inside, is_value}
 
 -- a blank, or a comment up to its line feed or the end
 abbrev pub IsPassed : List ℕ → List ℕ → Type 0

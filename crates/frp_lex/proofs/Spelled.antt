@@ -1,18 +1,18 @@
 -- What is spelled is lexed.
-use Rattle.std.proofs.Common.{◌≡◌, ℕ, zero, suc, ◌+◌, Bool, true, false, List, [], ◌∷◌, ◌++◌, length, drop, Some, None, Ok, Err, refl, sym, ap, ◌∙◌, append_assoc, length-append, arith}
-use Rattle.std.specs.Prelude.{IsTrue, if◌then◌else◌}
+use Rattle.std.proofs.Common.{◌≡◌, ℕ, ◌+◌, Bool, true, false, List, [], ◌∷◌, ◌++◌, length, Some, Ok, Err, refl, ap, ◌∙◌, append_assoc, length-append, arith}
+use Rattle.std.specs.Prelude.{if◌then◌else◌}
 use Rattle.std.proofs.Math.Seq.{drop-append_seam}
 use Rattle.frp_lex.specs.declared.token.Kind.{Kind}
 use Rattle.frp_lex.specs.declared.token.Kind.TheVariants as k
 use Rattle.frp_lex.specs.declared.token.Token.{Token}
 use Rattle.frp_lex.specs.Gives.{Outcome, ◌>>=◌}
 use Rattle.frp_lex.specs.Tokens.{token_at, tokens_from, tokens, front}
-use Rattle.frp_lex.specs.Spelling.{spelled, is_left, are_tight, gap, after, spelling, kinds_read, is_lawful, are_lawful}
+use Rattle.frp_lex.specs.Spelling.{spelled, is_left, are_tight, gap, after, kinds_read, is_lawful, are_lawful}
 use Rattle.frp_lex.specs.Written.{ends_atom, is_parted}
 use Rattle.frp_lex.specs.Laws.{SpelledIsLexed}
 use Rattle.frp_lex.proofs.Tests.{both_true}
 use Rattle.frp_lex.proofs.Reading.{one_piece}
-use Rattle.frp_lex.proofs.Fronts.{front_of, kind_read, kind_some}
+use Rattle.frp_lex.proofs.Fronts.{kind_read, kind_some}
 
 -- the token at the front is read, and then what follows it
 pub token_read : (kind : Kind) → is_lawful kind ≡ true → (at : ℕ) (rest : List ℕ) → is_parted kind rest ≡ true

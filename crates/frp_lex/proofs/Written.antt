@@ -1,8 +1,8 @@
 -- What is lexed is written tokens, and what is written so is lexed.
-use Rattle.std.proofs.Common.{◌≡◌, ℕ, zero, suc, ◌+◌, ◌-◌, ◌^◌, ◌<◌, ◌≤◌, Bool, true, false, ◌⊎◌, inl, inr, List, [], ◌∷◌, ◌++◌, length, drop, Option, Some, None, Ok, Err, refl, sym, ap, ◌∙◌, subst, append_assoc, length-append, add-zero, arith}
-use Rattle.std.specs.Prelude.{◌==◌, ◌&&◌, not, IsTrue, is_some, slice_index, if◌then◌else◌, nat_le, ℤ, pos, negsuc}
+use Rattle.std.proofs.Common.{◌≡◌, ℕ, zero, suc, ◌+◌, ◌^◌, ◌<◌, ◌≤◌, Bool, true, false, inl, inr, List, [], ◌∷◌, ◌++◌, length, drop, Option, Some, None, Ok, Err, refl, sym, ap, ◌∙◌, subst, append_assoc, length-append, add-zero, arith}
+use Rattle.std.specs.Prelude.{◌==◌, not, is_some, nat_le, pos, negsuc}
 use Rattle.std.specs.List.{list_all}
-use Rattle.std.specs.Fmt.{decimal, signed_decimal}
+use Rattle.std.specs.Fmt.{decimal}
 use Rattle.std.proofs.lemmas.List.{append-nil}
 use Rattle.std.proofs.Math.Seq.{drop-append_seam}
 use Rattle.std.proofs.lemmas.Grind.{common_steps}
@@ -15,7 +15,7 @@ use Rattle.frp_lex.specs.Bytes.{is_blank, is_in_comment, is_in_atom, is_in_name,
 use Rattle.frp_lex.specs.Atoms.{is_name, name_most}
 use Rattle.frp_lex.specs.Tokens.{Piece, token_at, put, tokens_from, tokens, front}
 use Rattle.frp_lex.specs.Spelling.{spelled, is_lawful}
-use Rattle.frp_lex.specs.Written.{comment_after, IsGap, IsLastGap, ends_atom, is_parted, BeginsWith, IsWritten}
+use Rattle.frp_lex.specs.Written.{comment_after, IsGap, IsLastGap, ends_atom, is_parted, IsWritten}
 use Rattle.frp_lex.specs.Laws.{LexedIsWritten, HasFirst, FaultIsFirst}
 use Rattle.frp_lex.proofs.Tests.{both_true, ends}
 use Rattle.frp_lex.proofs.Reading.{one_piece}
@@ -23,7 +23,7 @@ use Rattle.frp_lex.proofs.Spelled.{token_read}
 use Rattle.frp_lex.proofs.Numbers.{digits_decimal, decimal_some}
 use Rattle.frp_lex.proofs.Fronts.{name_in_atom, letter_in_atom, digit_in_atom, lower_in_name, upper_is_letter, kind_some}
 use Rattle.frp_lex.proofs.Gaps.{passed_over}
-use Rattle.frp_lex.proofs.Pieces.{ok_same, IsPassed, TokenFront, PassedFront, IsFront, front_is}
+use Rattle.frp_lex.proofs.Pieces.{ok_same, IsPassed, front_is}
 
 -- ---- what is written is lexed
 
@@ -38,7 +38,7 @@ pub written_read : (ts : List Token) (at : ℕ) (bs : List ℕ) → IsWritten at
 written_read [] at bs h = let d = some_of (comment_after false bs) h in all_passed d.0 at bs d.1
 written_read (t ∷ ts) at bs h =
     let first : tokens_from 0 at bs ≡ tokens_from 0 t.at (spelled t.kind ++ h.rest) =
-        ap (tokens_from 0 at) h.parts ∙ passed_over false false h.before h.gap (spelled t.kind ++ h.rest) at ∙ ap (λ n. tokens_from 0 n (spelled t.kind ++ h.rest)) (sym h.place) in
+    ap (tokens_from 0 at) h.parts ∙ passed_over false false h.before h.gap (spelled t.kind ++ h.rest) at ∙ ap (λ n. tokens_from 0 n (spelled t.kind ++ h.rest)) (sym h.place) in
     let second = token_read t.kind h.lawful t.at h.rest h.parted in
     let third = written_read ts (t.at + length (spelled t.kind)) h.rest h.more in
     first ∙ second ∙ ap (λ (r : Outcome (List Token)). r >>= λ more. Ok (token_at t.at t.kind ∷ more)) third

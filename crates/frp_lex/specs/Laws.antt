@@ -1,5 +1,5 @@
 -- What the tokens of bytes are, and the round trip between bytes and tokens.
-use Rattle.std.specs.Prelude.{◌≡◌, ◌↔◌, ℕ, ◌+◌, List, [], ◌∷◌, ◌++◌, length, IsTrue, Ok, Err}
+use Rattle.std.specs.Prelude.{◌≡◌, ◌↔◌, ℕ, ◌+◌, List, ◌∷◌, ◌++◌, length, IsTrue, Ok, Err}
 use Rattle.frp_lex.specs.declared.fault.Lex.{Lex}
 use Rattle.frp_lex.specs.declared.token.Kind.{Kind}
 use Rattle.frp_lex.specs.declared.token.Token.{Token}

@@ -1,12 +1,12 @@
 -- The tokens of bytes, or their first fault.
-use Rattle.std.specs.Prelude.{ℕ, zero, suc, ◌+◌, ◌-◌, ℤ, ◌&&◌, ◌||◌, ◌==◌, if◌then◌else◌, nat_le, List, [], ◌∷◌, ◌++◌, length, take, slice_index, Bool, true, false, Option, Some, None, Ok, Err}
-use Rattle.std.specs.List.{list_all, prefix_len}
+use Rattle.std.specs.Prelude.{ℕ, zero, suc, ◌+◌, ◌-◌, ℤ, ◌||◌, ◌==◌, if◌then◌else◌, nat_le, List, [], ◌∷◌, ◌++◌, length, take, slice_index, false, Option, Some, None, Ok}
+use Rattle.std.specs.List.{prefix_len}
 use Rattle.frp_lex.specs.declared.fault.LexKind.TheVariants as fault_kind
 use Rattle.frp_lex.specs.declared.token.Kind.{Kind}
 use Rattle.frp_lex.specs.declared.token.Kind.TheVariants as k
 use Rattle.frp_lex.specs.declared.token.Token.{Token}
 use Rattle.frp_lex.specs.Gives.{Outcome, ◌>>=◌, fault}
-use Rattle.frp_lex.specs.Bytes.{is_blank, is_lower, is_digit, is_in_atom, is_in_comment}
+use Rattle.frp_lex.specs.Bytes.{is_blank, is_digit, is_in_atom, is_in_comment}
 use Rattle.frp_lex.specs.Atoms.{number, is_name, name_most, is_word}
 use Rattle.frp_lex.specs.Quoted.{closing, first_bad, unescaped, text_most}
 

@@ -1,13 +1,14 @@
 //! Laws of the definitions, each as what a function without a body ensures.
 
-ghost use Rattle.frp_lex.specs.Laws.{LexedIsWritten, FaultIsFirst, SpelledIsLexed};
+ghost use Rattle.frp_lex.specs.Laws.{LexedIsWritten, FaultIsFirst, SpelledIsLexed, LexedIsLawful, LexedIsSpelled, CanonicalStays, SpellingTells};
 
-/// Bytes have some tokens exactly where they are these, each in its one spelling, with blanks and comments between.
+/// Bytes have some tokens exactly where they are these, each at its place in its one spelling, with blanks and comments
+/// between.
 pub fn lexed_is_written()
     ensures { LexedIsWritten }
 {}
 
-/// Before the first fault stand written tokens.
+/// The first fault is that of what stands at the front of some rest of the bytes, and before that rest stand written tokens.
 pub fn fault_is_first()
     ensures { FaultIsFirst }
 {}
@@ -15,4 +16,16 @@ pub fn fault_is_first()
 /// What lawful tokens are spelled has those tokens, places apart.
 pub fn spelled_is_lexed()
     ensures { SpelledIsLexed }
+{}
+
+/// The tokens of bytes are lawful, and the line that they are spelled on has them again, places apart.
+pub fn lexed_is_canonical()
+    ensures lawful { LexedIsLawful }
+    ensures spelled { LexedIsSpelled }
+{}
+
+/// A canonical line is its own, and different lawful tokens have different lines.
+pub fn canonical_is_one()
+    ensures stays { CanonicalStays }
+    ensures tells { SpellingTells }
 {}

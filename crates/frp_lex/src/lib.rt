@@ -13,7 +13,9 @@ mod speller;
 mod token;
 
 pub use fault::{Lex, LexKind, LexStop};
-pub use laws::{fault_is_first, lexed_is_written, spelled_is_lexed};
+pub use laws::{
+    canonical_is_one, fault_is_first, lexed_is_canonical, lexed_is_written, spelled_is_lexed,
+};
 pub use lexer::lex;
 pub use speller::spell;
 pub use token::{Kind, Token};

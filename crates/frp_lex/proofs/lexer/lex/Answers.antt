@@ -1,8 +1,8 @@
-use Rattle.std.proofs.Common.{◌≡◌, ◌+◌, ◌≤◌, length, drop, refl, arith, length-drop}
+use Rattle.std.proofs.Common.{◌≤◌, length, drop, arith, length-drop}
 use Rattle.std.proofs.lemmas.List.{take_rest}
 use Rattle.std.proofs.lemmas.Result.{err_from_is_err_and}
 use Rattle.frp_lex.specs.Tokens.{tokens}
-use Rattle.frp_lex.proofs.Reading.{goes_on, fails, is_done, begins}
+use Rattle.frp_lex.proofs.Reading.{goes_on, fails, begins}
 use Rattle.frp_lex.proofs.lexer.lex.Goals as goal
 
 pub loop-at-init : goal.loop-at-init

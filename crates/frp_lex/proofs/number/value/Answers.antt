@@ -1,4 +1,4 @@
-use Rattle.std.proofs.Common.{◌≡◌, ◌+◌, ◌^◌, ◌<◌, drop, arith}
+use Rattle.std.proofs.Common.{◌^◌, ◌<◌, drop, arith}
 use Rattle.std.proofs.lemmas.Grind.{common_steps}
 use Rattle.frp_lex.specs.Atoms.{value_from}
 use Rattle.frp_lex.proofs.Numbers.{value_over}
