@@ -7,7 +7,7 @@ use Rattle.frp_lex.specs.Tokens.{tokens}
 use Rattle.frp_lex.specs.Spelling.{spelled, spelling, kinds, kinds_read, is_lawful, are_lawful}
 use Rattle.frp_lex.specs.Written.{IsWritten}
 use Rattle.frp_lex.specs.Laws.{LexedIsLawful, LexedIsSpelled, canonical, CanonicalStays, SpellingTells}
-use Rattle.frp_lex.proofs.Tests.{true_both}
+use Rattle.frp_lex.proofs.Runs.{true_both}
 use Rattle.frp_lex.proofs.Spelled.{spelled_is_lexed_lem}
 use Rattle.frp_lex.proofs.Written.{lexed_is_written_lem}
 

@@ -15,7 +15,7 @@ use Rattle.frp_lex.specs.Quoted.{closing, text_most}
 use Rattle.frp_lex.specs.Tokens.{Piece, atom_from, atom_piece, text, front}
 use Rattle.frp_lex.specs.Spelling.{spelled, is_lawful}
 use Rattle.frp_lex.specs.Written.{ends_atom, is_parted}
-use Rattle.frp_lex.proofs.Tests.{both_true, true_both, ends, run, all_pass}
+use Rattle.frp_lex.proofs.Runs.{both_true, true_both, ends, run, all_pass}
 use Rattle.frp_lex.proofs.Numbers.{digits_decimal, decimal_some, positive_decimal, negative_decimal}
 use Rattle.frp_lex.proofs.Quotes.{closes, unescapes, good}
 

@@ -1,4 +1,4 @@
-pub mod Tests
+pub mod Runs
 pub mod Numbers
 pub mod Ascii
 pub mod Reading

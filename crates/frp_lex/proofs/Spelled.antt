@@ -10,7 +10,7 @@ use Rattle.frp_lex.specs.Tokens.{token_at, tokens_from, tokens, front}
 use Rattle.frp_lex.specs.Spelling.{spelled, is_left, are_tight, gap, after, kinds_read, is_lawful, are_lawful}
 use Rattle.frp_lex.specs.Written.{ends_atom, is_parted}
 use Rattle.frp_lex.specs.Laws.{SpelledIsLexed}
-use Rattle.frp_lex.proofs.Tests.{both_true}
+use Rattle.frp_lex.proofs.Runs.{both_true}
 use Rattle.frp_lex.proofs.Reading.{one_piece}
 use Rattle.frp_lex.proofs.Fronts.{kind_read, kind_some}
 

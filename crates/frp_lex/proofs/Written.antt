@@ -17,7 +17,7 @@ use Rattle.frp_lex.specs.Tokens.{Piece, token_at, put, tokens_from, tokens, fron
 use Rattle.frp_lex.specs.Spelling.{spelled, is_lawful}
 use Rattle.frp_lex.specs.Written.{comment_after, IsGap, IsLastGap, ends_atom, is_parted, IsWritten}
 use Rattle.frp_lex.specs.Laws.{LexedIsWritten, HasFirst, FaultIsFirst}
-use Rattle.frp_lex.proofs.Tests.{both_true, ends}
+use Rattle.frp_lex.proofs.Runs.{both_true, ends}
 use Rattle.frp_lex.proofs.Reading.{one_piece}
 use Rattle.frp_lex.proofs.Spelled.{token_read}
 use Rattle.frp_lex.proofs.Numbers.{digits_decimal, decimal_some}
@@ -149,12 +149,16 @@ passed_more at passed bs (t ∷ ts) h w =
       more = w.more;
     }
 
--- what is read behind the front
-rest_read : (at b : ℕ) (bs first rest : List ℕ) (o : Option Kind) (n : ℕ) → front at b bs ≡ Ok (o, n) → b ∷ bs ≡ first ++ rest → n ≡ length first → 1 ≤ n
+-- what is left behind a front is shorter
+shorter : (n : ℕ) (bs first rest : List ℕ) → bs ≡ first ++ rest → 1 ≤ length first → length bs ≤ suc n → length rest ≤ n
+shorter n bs first rest p some le = let l : length bs ≡ length first + length rest = ap length p ∙ length-append first rest in omega arith
+
+-- what is read behind it
+rest_read : (at b : ℕ) (bs first rest : List ℕ) (o : Option Kind) (n : ℕ) → front at b bs ≡ Ok (o, n) → b ∷ bs ≡ first ++ rest → n ≡ length first → 1 ≤ length first
     → tokens_from 0 at (b ∷ bs) ≡ (tokens_from 0 (at + length first) rest >>= λ more. Ok (put at o more))
-rest_read at b bs first rest o n e p q moves =
+rest_read at b bs first rest o n e p q some =
     let d : drop n (b ∷ bs) ≡ rest = ap (λ i. drop i (b ∷ bs)) q ∙ ap (drop (length first)) p ∙ drop-append_seam first rest in
-    one_piece at (b ∷ bs) (o, n) (omega arith) moves e
+    one_piece at (b ∷ bs) (o, n) (omega arith) (omega arith) e
     ∙ ap (λ x. tokens_from 0 (at + n) x >>= λ more. Ok (put at o more)) d
     ∙ ap (λ i. tokens_from 0 (at + i) rest >>= λ more. Ok (put at o more)) q
 
@@ -166,11 +170,19 @@ put_err : (at : ℕ) (o : Option Kind) (r : Outcome (List Token)) (f : Lex) → 
 put_err at o (Ok more) f h = absurd cc
 put_err at o (Err g) f h = cc
 
+rest_ok : (at b : ℕ) (bs first rest : List ℕ) (o : Option Kind) (n : ℕ) (ts : List Token) → front at b bs ≡ Ok (o, n) → b ∷ bs ≡ first ++ rest → n ≡ length first → 1 ≤ length first → tokens_from 0 at (b ∷ bs) ≡ Ok ts
+    → (more : List Token) × (tokens_from 0 (at + length first) rest ≡ Ok more) × (put at o more ≡ ts)
+rest_ok at b bs first rest o n ts e p q some h = put_ok at o (tokens_from 0 (at + length first) rest) ts (sym (rest_read at b bs first rest o n e p q some) ∙ h)
+
+rest_err : (at b : ℕ) (bs first rest : List ℕ) (o : Option Kind) (n : ℕ) (f : Lex) → front at b bs ≡ Ok (o, n) → b ∷ bs ≡ first ++ rest → n ≡ length first → 1 ≤ length first → tokens_from 0 at (b ∷ bs) ≡ Err f
+    → tokens_from 0 (at + length first) rest ≡ Err f
+rest_err at b bs first rest o n f e p q some h = put_err at o (tokens_from 0 (at + length first) rest) f (sym (rest_read at b bs first rest o n e p q some) ∙ h)
+
 passed_some : (passed rest : List ℕ) → IsPassed passed rest → 1 ≤ length passed
 passed_some [] rest h = absurd h
 passed_some (b ∷ passed) rest h = omega arith
 
--- reading all of shorter bytes
+-- reading all of bytes that are no more than these many
 abbrev Reads : ℕ → Type 0
 Reads n = (at : ℕ) (bs : List ℕ) (ts : List Token) → length bs ≤ n → tokens_from 0 at bs ≡ Ok ts → IsWritten at ts bs
 
@@ -179,16 +191,14 @@ read_by n at b bs ts (Err f) e le h ih = absurd (let g = rw e at h in cc)
 read_by n at b bs ts (Ok (Some kind, m)) e le h ih =
     let p = front_is at b bs (Some kind, m) e in
     let some = kind_some kind p.lawful in
-    let q = put_ok at (Some kind) (tokens_from 0 (at + length (spelled kind)) p.rest) ts (sym (rest_read at b bs (spelled kind) p.rest (Some kind) m e p.parts p.counted (let c = p.counted in omega arith)) ∙ h) in
-    let l : length (b ∷ bs) ≡ length (spelled kind) + length p.rest = ap length p.parts ∙ length-append (spelled kind) p.rest in
-    let w = ih (at + length (spelled kind)) p.rest q.0 (omega arith) q.1 in
+    let q = rest_ok at b bs (spelled kind) p.rest (Some kind) m ts e p.parts p.counted some h in
+    let w = ih (at + length (spelled kind)) p.rest q.0 (shorter n (b ∷ bs) (spelled kind) p.rest p.parts some le) q.1 in
     subst (λ x. IsWritten at ts x) (sym p.parts) (subst (λ x. IsWritten at x (spelled kind ++ p.rest)) q.2 (token_more at kind p.rest q.0 p.lawful p.parted w))
 read_by n at b bs ts (Ok (None, m)) e le h ih =
     let p = front_is at b bs (None, m) e in
     let some = passed_some p.passed p.rest p.is in
-    let q = put_ok at None (tokens_from 0 (at + length p.passed) p.rest) ts (sym (rest_read at b bs p.passed p.rest None m e p.parts p.counted (let c = p.counted in omega arith)) ∙ h) in
-    let l : length (b ∷ bs) ≡ length p.passed + length p.rest = ap length p.parts ∙ length-append p.passed p.rest in
-    let w = ih (at + length p.passed) p.rest q.0 (omega arith) q.1 in
+    let q = rest_ok at b bs p.passed p.rest None m ts e p.parts p.counted some h in
+    let w = ih (at + length p.passed) p.rest q.0 (shorter n (b ∷ bs) p.passed p.rest p.parts some le) q.1 in
     subst (λ x. IsWritten at ts x) (sym p.parts) (subst (λ x. IsWritten at x (p.passed ++ p.rest)) q.2 (passed_more at p.passed p.rest q.0 p.is w))
 
 reads : (n : ℕ) → Reads n
@@ -205,6 +215,30 @@ lexed_is_written_lem bs ts = (λ h. reads (length bs) 0 bs ts (omega arith) h, �
 longer : (at : ℕ) (xs ys : List ℕ) → at + length (xs ++ ys) ≡ at + length xs + length ys
 longer at xs ys = omega (arith, length-append xs ys)
 
+-- a first fault behind a token
+token_fault : (at : ℕ) (kind : Kind) (rest : List ℕ) (f : Lex) → is_lawful kind ≡ true → is_parted kind rest ≡ true → HasFirst (at + length (spelled kind)) rest f → HasFirst at (spelled kind ++ rest) f
+token_fault at kind rest f l p w = record {
+  before = spelled kind ++ w.before;
+  b = w.b;
+  rest = w.rest;
+  parts = ap (λ (x : List ℕ). spelled kind ++ x) w.parts ∙ sym (append_assoc (spelled kind) w.before (w.b ∷ w.rest));
+  read = token_at at kind ∷ w.read;
+  written = token_more at kind w.before w.read l (front_parted kind w.before (w.b ∷ w.rest) (subst (λ x. is_parted kind x ≡ true) w.parts p)) w.written;
+  faulty = ap (λ n. front n w.b w.rest) (longer at (spelled kind) w.before) ∙ w.faulty;
+}
+
+-- and behind a blank or a comment
+passed_fault : (at : ℕ) (passed rest : List ℕ) (f : Lex) → IsPassed passed rest → HasFirst (at + length passed) rest f → HasFirst at (passed ++ rest) f
+passed_fault at passed rest f p w = record {
+  before = passed ++ w.before;
+  b = w.b;
+  rest = w.rest;
+  parts = ap (λ (x : List ℕ). passed ++ x) w.parts ∙ sym (append_assoc passed w.before (w.b ∷ w.rest));
+  read = w.read;
+  written = passed_more at passed w.before w.read (front_passed passed w.before (w.b ∷ w.rest) (subst (IsPassed passed) w.parts p)) w.written;
+  faulty = ap (λ n. front n w.b w.rest) (longer at passed w.before) ∙ w.faulty;
+}
+
 abbrev Finds : ℕ → Type 0
 Finds n = (at : ℕ) (bs : List ℕ) (f : Lex) → length bs ≤ n → tokens_from 0 at bs ≡ Err f → HasFirst at bs f
 
@@ -215,33 +249,15 @@ find_by n at b bs f (Err g) e le h ih =
 find_by n at b bs f (Ok (Some kind, m)) e le h ih =
     let p = front_is at b bs (Some kind, m) e in
     let some = kind_some kind p.lawful in
-    let q = put_err at (Some kind) (tokens_from 0 (at + length (spelled kind)) p.rest) f (sym (rest_read at b bs (spelled kind) p.rest (Some kind) m e p.parts p.counted (let c = p.counted in omega arith)) ∙ h) in
-    let l : length (b ∷ bs) ≡ length (spelled kind) + length p.rest = ap length p.parts ∙ length-append (spelled kind) p.rest in
-    let w = ih (at + length (spelled kind)) p.rest f (omega arith) q in
-    record {
-      before = spelled kind ++ w.before;
-      b = w.b;
-      rest = w.rest;
-      parts = p.parts ∙ ap (λ (x : List ℕ). spelled kind ++ x) w.parts ∙ sym (append_assoc (spelled kind) w.before (w.b ∷ w.rest));
-      read = token_at at kind ∷ w.read;
-      written = token_more at kind w.before w.read p.lawful (front_parted kind w.before (w.b ∷ w.rest) (subst (λ x. is_parted kind x ≡ true) w.parts p.parted)) w.written;
-      faulty = ap (λ n. front n w.b w.rest) (longer at (spelled kind) w.before) ∙ w.faulty;
-    }
+    let q = rest_err at b bs (spelled kind) p.rest (Some kind) m f e p.parts p.counted some h in
+    let w = ih (at + length (spelled kind)) p.rest f (shorter n (b ∷ bs) (spelled kind) p.rest p.parts some le) q in
+    subst (λ x. HasFirst at x f) (sym p.parts) (token_fault at kind p.rest f p.lawful p.parted w)
 find_by n at b bs f (Ok (None, m)) e le h ih =
     let p = front_is at b bs (None, m) e in
     let some = passed_some p.passed p.rest p.is in
-    let q = put_err at None (tokens_from 0 (at + length p.passed) p.rest) f (sym (rest_read at b bs p.passed p.rest None m e p.parts p.counted (let c = p.counted in omega arith)) ∙ h) in
-    let l : length (b ∷ bs) ≡ length p.passed + length p.rest = ap length p.parts ∙ length-append p.passed p.rest in
-    let w = ih (at + length p.passed) p.rest f (omega arith) q in
-    record {
-      before = p.passed ++ w.before;
-      b = w.b;
-      rest = w.rest;
-      parts = p.parts ∙ ap (λ (x : List ℕ). p.passed ++ x) w.parts ∙ sym (append_assoc p.passed w.before (w.b ∷ w.rest));
-      read = w.read;
-      written = passed_more at p.passed w.before w.read (front_passed p.passed w.before (w.b ∷ w.rest) (subst (IsPassed p.passed) w.parts p.is)) w.written;
-      faulty = ap (λ n. front n w.b w.rest) (longer at p.passed w.before) ∙ w.faulty;
-    }
+    let q = rest_err at b bs p.passed p.rest None m f e p.parts p.counted some h in
+    let w = ih (at + length p.passed) p.rest f (shorter n (b ∷ bs) p.passed p.rest p.parts some le) q in
+    subst (λ x. HasFirst at x f) (sym p.parts) (passed_fault at p.passed p.rest f p.is w)
 
 finds : (n : ℕ) → Finds n
 finds n at [] f le h = absurd (let g : ◌≡◌ {A = Outcome (List Token)} (Ok []) (Err f) = h in cc)

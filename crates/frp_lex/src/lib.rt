@@ -19,3 +19,6 @@ pub use laws::{
 pub use lexer::lex;
 pub use speller::spell;
 pub use token::{Kind, Token};
+
+#[cfg(test)]
+mod tests;
