@@ -5,13 +5,13 @@ use Rattle.frp_lex.specs.declared.token.Token.{Token}
 use Rattle.frp_lex.specs.Gives.{Outcome, ◌>>=◌}
 use Rattle.frp_lex.specs.Tokens.{tokens}
 use Rattle.frp_lex.specs.Spelling.{spelled, spelling, kinds, kinds_read, is_lawful, are_lawful}
-use Rattle.frp_lex.specs.Written.{IsWritten}
+use Rattle.frp_lex.specs.Written.{IsLastGap, AreTokens}
 use Rattle.frp_lex.specs.Laws.{LexedIsLawful, LexedIsSpelled, canonical, CanonicalStays, SpellingTells}
 use Rattle.frp_lex.proofs.Runs.{true_both}
 use Rattle.frp_lex.proofs.Spelled.{spelled_is_lexed_lem}
 use Rattle.frp_lex.proofs.Written.{lexed_is_written_lem}
 
-written_lawful : (at : ℕ) (ts : List Token) (bs : List ℕ) → IsWritten at ts bs → are_lawful (kinds ts) ≡ true
+written_lawful : (at : ℕ) (ts : List Token) (bs : List ℕ) → AreTokens (λ at rest. IsLastGap rest) at ts bs → are_lawful (kinds ts) ≡ true
 written_lawful at [] bs h = refl
 written_lawful at (t ∷ ts) bs h = true_both (is_lawful t.kind) (are_lawful (kinds ts)) h.lawful (written_lawful (t.at + length (spelled t.kind)) ts h.rest h.more)
 

@@ -1,30 +1,20 @@
 -- What the tokens of bytes are, and the round trip between bytes and tokens.
-use Rattle.std.specs.Prelude.{◌≡◌, ◌↔◌, ℕ, ◌+◌, List, ◌∷◌, ◌++◌, length, IsTrue, Ok, Err}
+use Rattle.std.specs.Prelude.{◌≡◌, ◌↔◌, ℕ, List, IsTrue, Ok, Err}
 use Rattle.frp_lex.specs.declared.fault.Lex.{Lex}
 use Rattle.frp_lex.specs.declared.token.Kind.{Kind}
 use Rattle.frp_lex.specs.declared.token.Token.{Token}
 use Rattle.frp_lex.specs.Gives.{Outcome, ◌>>=◌}
-use Rattle.frp_lex.specs.Tokens.{tokens, front}
+use Rattle.frp_lex.specs.Tokens.{tokens}
 use Rattle.frp_lex.specs.Spelling.{spelling, kinds, kinds_read, are_lawful}
-use Rattle.frp_lex.specs.Written.{IsWritten}
+use Rattle.frp_lex.specs.Written.{IsWritten, IsWrittenUpTo}
 
 -- bytes have these tokens exactly where they are these tokens, written
 abbrev pub LexedIsWritten : Type 0
-LexedIsWritten = (bs : List ℕ) (ts : List Token) → (tokens bs ≡ Ok ts) ↔ IsWritten 0 ts bs
+LexedIsWritten = (bs : List ℕ) (ts : List Token) → (tokens bs ≡ Ok ts) ↔ IsWritten ts bs
 
--- Bytes, the first of which has this place, have this first fault: it is that of what stands at the front of some rest of them,
--- and what stands before that is written tokens.
-pub record HasFirst (at : ℕ) (bs : List ℕ) (f : Lex) : Type 0 where
-  pub before : List ℕ
-  pub b : ℕ
-  pub rest : List ℕ
-  pub parts : bs ≡ before ++ b ∷ rest
-  pub read : List Token
-  pub written : IsWritten at read before
-  pub faulty : front (at + length before) b rest ≡ Err f
-
+-- bytes have this first fault exactly where they are some tokens, written, up to it
 abbrev pub FaultIsFirst : Type 0
-FaultIsFirst = (bs : List ℕ) (f : Lex) → tokens bs ≡ Err f → HasFirst 0 bs f
+FaultIsFirst = (bs : List ℕ) (f : Lex) → (tokens bs ≡ Err f) ↔ ((ts : List Token) × IsWrittenUpTo f ts bs)
 
 -- the tokens of what lawful tokens are spelled are those tokens
 abbrev pub SpelledIsLexed : Type 0

@@ -1,9 +1,12 @@
--- Bytes that are written tokens: each token in its one spelling, and blanks and comments between them.
-use Rattle.std.specs.Prelude.{◌≡◌, ℕ, ◌+◌, Bool, true, false, not, ◌==◌, if◌then◌else◌, List, [], ◌∷◌, ◌++◌, length, Option, Some, None, IsTrue, is_some}
+-- Bytes that are written tokens: each token in its one spelling, and blanks and comments between them; and bytes that are so up to
+-- a fault.
+use Rattle.std.specs.Prelude.{◌≡◌, ℕ, ◌+◌, Bool, true, false, not, ◌==◌, if◌then◌else◌, List, [], ◌∷◌, ◌++◌, length, Option, Some, None, IsTrue, is_some, Err}
+use Rattle.frp_lex.specs.declared.fault.Lex.{Lex}
 use Rattle.frp_lex.specs.declared.token.Kind.{Kind}
 use Rattle.frp_lex.specs.declared.token.Kind.TheVariants as k
 use Rattle.frp_lex.specs.declared.token.Token.{Token}
 use Rattle.frp_lex.specs.Bytes.{is_blank, is_in_atom}
+use Rattle.frp_lex.specs.Tokens.{front}
 use Rattle.frp_lex.specs.Spelling.{spelled, is_lawful}
 
 -- Whether a comment goes on behind these bytes, or none where they are not all blanks and comments. The flag says whether one
@@ -44,7 +47,24 @@ pub record BeginsWith (Then : ℕ → List ℕ → Type 0) (at : ℕ) (t : Token
   pub parted : IsTrue (is_parted t.kind rest)
   pub more : Then (t.at + length (spelled t.kind)) rest
 
--- the bytes, the first of which has this place, are these tokens
-abbrev pub IsWritten : ℕ → List Token → List ℕ → Type 0
-IsWritten at [] bs = IsLastGap bs
-IsWritten at (t ∷ ts) bs = BeginsWith (λ at rest. IsWritten at ts rest) at t bs
+-- the bytes, the first of which has this place, are these tokens, and then what `Last` says of the rest
+abbrev pub AreTokens : (ℕ → List ℕ → Type 0) → ℕ → List Token → List ℕ → Type 0
+AreTokens Last at [] bs = Last at bs
+AreTokens Last at (t ∷ ts) bs = BeginsWith (λ at rest. AreTokens Last at ts rest) at t bs
+
+-- An input is these tokens.
+abbrev pub IsWritten : List Token → List ℕ → Type 0
+IsWritten = AreTokens (λ at rest. IsLastGap rest) 0
+
+-- The bytes, the first of which has this place, are a gap and then something that is at fault.
+pub record IsFaulty (f : Lex) (at : ℕ) (bs : List ℕ) : Type 0 where
+  pub before : List ℕ
+  pub b : ℕ
+  pub rest : List ℕ
+  pub parts : bs ≡ before ++ b ∷ rest
+  pub gap : IsGap before
+  pub fault : front (at + length before) b rest ≡ Err f
+
+-- An input is these tokens up to this fault.
+abbrev pub IsWrittenUpTo : Lex → List Token → List ℕ → Type 0
+IsWrittenUpTo f = AreTokens (IsFaulty f) 0

@@ -2,13 +2,13 @@
 
 ghost use Rattle.frp_lex.specs.Laws.{LexedIsWritten, FaultIsFirst, SpelledIsLexed, LexedIsLawful, LexedIsSpelled, CanonicalStays, SpellingTells};
 
-/// Bytes have some tokens exactly where they are these, each at its place in its one spelling, with blanks and comments
+/// Bytes have some tokens exactly where they are these: each at its place in its one spelling, with blanks and comments
 /// between.
 pub fn lexed_is_written()
     ensures { LexedIsWritten }
 {}
 
-/// The first fault is that of what stands at the front of some rest of the bytes, and before that rest stand written tokens.
+/// Bytes have a first fault exactly where they are some tokens, written so, and then what is at fault.
 pub fn fault_is_first()
     ensures { FaultIsFirst }
 {}
