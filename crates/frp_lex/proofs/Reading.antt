@@ -1,6 +1,6 @@
 -- Reading one piece after the other, as a loop does.
 use Rattle.std.proofs.Common.{◌≡◌, ℕ, zero, suc, ◌-◌, ◌+◌, ◌≤◌, List, [], ◌∷◌, ◌++◌, length, drop, Option, Some, None, Ok, Err, refl, sym, ap, ◌∙◌, append_assoc, add-zero, arith, rules}
-use Rattle.std.proofs.lemmas.List.{append-nil, drop-drop}
+use Rattle.std.proofs.lemmas.List.{drop-drop}
 use Rattle.std.specs.Prelude.{slice_index}
 use Rattle.frp_lex.specs.declared.fault.LexStop.{LexStop}
 use Rattle.frp_lex.specs.declared.fault.LexStop.TheVariants as stop
@@ -52,10 +52,6 @@ fails_first (stop.Fault f) before at (b ∷ bs) some h = rw h refl
 
 pub fails : (e : LexStop) (before : List Token) (at : ℕ) (bs : List ℕ) (total : Outcome (List Token)) → 1 ≤ length bs → Stops e (front at (slice_index bs 0) (drop 1 bs)) → behind before (tokens_from 0 at bs) ≡ total → Stops e total
 fails e before at bs total some h so_far = rw (← so_far) (fails_first e before at bs some h)
-
-pub is_done : (before : List Token) (at : ℕ) (bs : List ℕ) (total : Outcome (List Token)) → length bs ≤ 0 → behind before (tokens_from 0 at bs) ≡ total → total ≡ Ok before
-is_done before at [] total le so_far = sym so_far ∙ ap Ok (append-nil before)
-is_done before at (b ∷ bs) total le so_far = absurd (omega arith)
 
 pub begins : (bytes : List ℕ) → behind [] (tokens_from 0 0 bytes) ≡ tokens bytes
 unfolding tokens

@@ -74,9 +74,6 @@ line_gap : (line rest : List ℕ) → list_all is_in_comment line ≡ true → c
 line_gap [] rest h = refl
 line_gap (b ∷ line) rest h = let p = both_true (is_in_comment b) (list_all is_in_comment line) h in ap (λ c. comment_after c (line ++ rest)) p.0 ∙ line_gap line rest p.1
 
-feed_is : (b : ℕ) → not (is_in_comment b) ≡ true → (b == 10) ≡ true
-feed_is b h = grind (arith, common_steps)
-
 feed_gap : (b : ℕ) (rest : List ℕ) → not (is_in_comment b) ≡ true → comment_after true (b ∷ rest) ≡ comment_after false (b ∷ rest)
 feed_gap b rest h = let e : b ≡ 10 = grind (arith, common_steps) in rw e refl
 
