@@ -28,7 +28,12 @@ pub fn input_of(alloc: Global, written: &str, any: u8) -> Result<Vec<u8>, Memory
         let Some((part, more)) = behind.split_once('*') else {
             break;
         };
-        push_times(&mut input, part.as_bytes(), any, count.parse::<u32>().unwrap_or(0))?;
+        push_times(
+            &mut input,
+            part.as_bytes(),
+            any,
+            count.parse::<u32>().unwrap_or(0),
+        )?;
         rest = more;
     }
     push_units(&mut input, rest.as_bytes(), any)?;
