@@ -11,18 +11,18 @@ use Rattle.frp_graph.specs.declared.trace.Node.{Node}
 use Rattle.frp_graph.specs.declared.trace.Fact.{Fact}
 use Rattle.frp_graph.specs.declared.prog.Prog.{Prog}
 use Rattle.frp_graph.specs.declared.shape.Shape.{Shape}
-use Rattle.frp_graph.specs.declared.shape.Shape.TheVariants.{Sink, Map, Filter, Hold}
+use Rattle.frp_graph.specs.declared.shape.Shape.TheVariants.{Sink, Never, Map, Filter, Hold}
 use Rattle.frp_graph.specs.Equations.{row}
 use Rattle.frp_run.specs.Small.{IsEarlier, IsSmall, AreSmallFrom}
 use Rattle.frp_run.specs.Engine.{sends_at, occ_at, sees, AreSettled, facts_of}
 
 -- the node at a position of the nodes is small there
-pub small_at : (k : ℕ) (xs : List Node) (i : ℕ) (d : Node) → i < length xs → AreSmallFrom k xs → IsSmall (k + i) (get_or xs i d) (get_or xs i d).shape
+pub small_at : (k : ℕ) (xs : List Node) (i : ℕ) (d : Node) → i < length xs → AreSmallFrom k xs → IsSmall (k + i) (get_or xs i d).shape
 small_at k [] i d h s = absurd (omega arith)
-small_at k (x ∷ xs) zero d h s = subst (λ j. IsSmall j x x.shape) (sym (add-zero k)) s.1
+small_at k (x ∷ xs) zero d h s = subst (λ j. IsSmall j x.shape) (sym (add-zero k)) s.1
 small_at k (x ∷ xs) (suc i) d h s =
     let e : (k + 1) + i ≡ k + suc i = omega arith in
-    subst (λ j. IsSmall j (get_or xs i d) (get_or xs i d).shape) e (small_at (k + 1) xs i d (omega arith) s.2)
+    subst (λ j. IsSmall j (get_or xs i d).shape) e (small_at (k + 1) xs i d (omega arith) s.2)
 
 -- the first of nodes are small as all of them are
 pub small_front : (k n : ℕ) (xs : List Node) → AreSmallFrom k xs → AreSmallFrom k (take n xs)
@@ -43,12 +43,13 @@ occ_more os o k n h e =
     ap (λ p. option_and_then (λ (q : Option Val). q) p) (get_front os o (item_of n) l)
 
 module _ (prog : Prog) (place : ℕ) (sent : Option Fact) where
-  row_more : (os : List (Option Val)) (o : Option Val) (k : ℕ) (x : Node) (s : Shape) → k ≤ length os → IsSmall k x s
+  row_more : (os : List (Option Val)) (o : Option Val) (k : ℕ) (x : Node) (s : Shape) → k ≤ length os → IsSmall k s
       → row prog (sends_at place sent) (sees place (os ++ o ∷ [])) x s ≡ row prog (sends_at place sent) (sees place os) x s
   row_more os o k x Sink h e = refl
-  row_more os o k x (Map f s) h e = ap (option_map _) (occ_more os o k s h e.0)
-  row_more os o k x (Filter f s) h e = ap (option_and_then _) (occ_more os o k s h e.0)
-  row_more os o k x (Hold s) h e = occ_more os o k s h e.0
+  row_more os o k x Never h e = refl
+  row_more os o k x (Map f s) h e = ap (option_map _) (occ_more os o k s h e)
+  row_more os o k x (Filter f s) h e = ap (option_and_then _) (occ_more os o k s h e)
+  row_more os o k x (Hold s) h e = occ_more os o k s h e
   row_more os o k x _ h e = absurd e
 
   -- settled nodes stay settled where one more occurrence is seen
@@ -80,7 +81,7 @@ module _ (prog : Prog) (place : ℕ) (sent : Option Fact) where
   settled_more nodes os o i x s h e a r =
       let n : length os ≡ length (take i nodes) = settled_length os (take i nodes) os a in
       let l : length os ≡ i = n ∙ grind (arith, common_steps) in
-      let m : IsSmall i x x.shape = subst (λ y. IsSmall i y y.shape) (sym e) (subst (λ j. IsSmall j (get_or nodes i x) (get_or nodes i x).shape) (zero-add i) (small_at 0 nodes i x h s)) in
+      let m : IsSmall i x.shape = subst (λ y. IsSmall i y.shape) (sym e) (subst (λ j. IsSmall j (get_or nodes i x).shape) (zero-add i) (small_at 0 nodes i x h s)) in
       let f : take (i + 1) nodes ≡ take i nodes ++ x ∷ [] = take_more nodes i x h ∙ ap (λ y. take i nodes ++ y ∷ []) (sym e) in
       rw f (settled_push (os ++ o ∷ []) (take i nodes) os x o
       (settled_seen os o 0 (take i nodes) os (omega arith) (small_front 0 i nodes s) a)
@@ -102,8 +103,8 @@ facts_next xs os i x h k = rw (add-one, drop-cons xs i x, drop-cons os i None) (
 module _ (prog : Prog) (place : ℕ) (sent : Option Fact) where
   -- the next node is small where as many occurrences as nodes before it are settled
   pub small_here : (nodes : List Node) (os : List (Option Val)) (i : ℕ) (x : Node) → AreSmallFrom 0 nodes → i < length nodes → x ≡ get_or nodes i x
-      → AreSettled prog place sent os (take i nodes) os → IsSmall (length os) x x.shape
+      → AreSettled prog place sent os (take i nodes) os → IsSmall (length os) x.shape
   small_here nodes os i x s h e a =
       let n : length os ≡ length (take i nodes) = settled_length prog place sent os (take i nodes) os a in
       let l : 0 + i ≡ length os = zero-add i ∙ sym (n ∙ grind (arith, common_steps)) in
-      subst (λ j. IsSmall j x x.shape) l (subst (λ y. IsSmall (0 + i) y y.shape) (sym e) (small_at 0 nodes i x h s))
+      subst (λ j. IsSmall j x.shape) l (subst (λ y. IsSmall (0 + i) y.shape) (sym e) (small_at 0 nodes i x h s))
