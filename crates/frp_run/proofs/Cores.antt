@@ -22,7 +22,7 @@ use Rattle.frp_graph.specs.Moments.{build, made_at, IsMoment, AtEach}
 use Rattle.frp_graph.specs.History.{send_of, sends_of, entry_at}
 use Rattle.frp_graph.specs.Windows.{window}
 use Rattle.frp_graph.specs.Legal.{is_of, moments_of, is_sink, live_before, IsHeld, IsReply}
-use Rattle.frp_graph.proofs.Each.{each_more}
+use Rattle.frp_graph.proofs.Each.{append-nil, each_more}
 use Rattle.frp_run.specs.Small.{is_built, AreSmallFrom}
 use Rattle.frp_run.specs.Engine.{AreFacts}
 use Rattle.frp_run.specs.Core.{program, times_of, HasSlot, IsCore, Entered, HasLeft}
@@ -32,10 +32,6 @@ use Rattle.frp_run.proofs.Settling.{settled_length}
 use Rattle.frp_run.proofs.NewMoment.{nodes_rise, new_moment}
 use Rattle.frp_run.proofs.Traces.{is_trace, moment_sends, sent_more, sent_last, each_with, live_append}
 use Rattle.frp_run.proofs.Replies.{entry_bound, before_stays, replies_stay, replies_more}
-
-pub append_nil : {A : Type 0} (xs : List A) → xs ++ [] ≡ xs
-append_nil [] = refl
-append_nil (x ∷ xs) = ap (λ ys. x ∷ ys) (append_nil xs)
 
 map_append : {A B : Type 0} (f : A → B) (xs ys : List A) → map f (xs ++ ys) ≡ map f xs ++ map f ys
 map_append f [] ys = refl
@@ -79,7 +75,7 @@ module _ (c : Core) (core : IsCore c) where
   module _ (e : Entry) (none : send_of here e.cmd e.reply ≡ []) (slot : HasSlot e.reply)
       (reply : IsReply c.trace c.entries here e.caller e.cmd e.reply) where
     same_sends : sends_of (c.entries ++ e ∷ []) ≡ sends_of c.entries
-    same_sends = sends_more 1 here c.entries e (omega arith) ∙ ap (λ xs. sends_of c.entries ++ xs) none ∙ append_nil (sends_of c.entries)
+    same_sends = sends_more 1 here c.entries e (omega arith) ∙ ap (λ xs. sends_of c.entries ++ xs) none ∙ append-nil (sends_of c.entries)
 
     abbrev quiet : Core
     quiet = record { prog = c.prog; entries = c.entries ++ e ∷ []; trace = c.trace }
@@ -139,7 +135,7 @@ module _ (c : Core) (core : IsCore c) where
     more_sends = sends_more 1 here c.entries e (omega arith)
 
     live_stays : live (c.trace ++ m ∷ []) ≡ live c.trace
-    live_stays = live_append c.trace (m ∷ []) ∙ append_nil (live c.trace)
+    live_stays = live_append c.trace (m ∷ []) ∙ append-nil (live c.trace)
 
     more_times : map (λ m. m.time) (c.trace ++ m ∷ []) ≡ times_of (c.entries ++ e ∷ [])
     more_times = map_append (λ m. m.time) c.trace (m ∷ []) ∙ ap (λ ts. ts ++ (here ∷ []) ∷ []) core.times
@@ -217,18 +213,18 @@ module _ (prog : Prog) (nodes : List Node) (fired : List Fact) (built : is_built
   first_core = record { prog = prog; entries = []; trace = first_moment ∷ [] }
 
   small_first : AreSmallFrom 0 (live (first_moment ∷ []))
-  small_first = subst (AreSmallFrom 0) (sym (append_nil nodes)) small
+  small_first = subst (AreSmallFrom 0) (sym (append-nil nodes)) small
 
   is_first : IsMoment prog [] [] first_moment
   is_first = new_moment prog nodes [] 0 None [] first_moment facts.occs refl facts.fired small
       (settled_length prog 0 None facts.occs nodes facts.occs facts.settled) (λ n. refl) facts.settled
-      (born (live (first_moment ∷ [])) (sight_of [] first_moment)) (nodes_rise 0 nodes small) (append_nil nodes)
+      (born (live (first_moment ∷ [])) (sight_of [] first_moment)) (nodes_rise 0 nodes small) (append-nil nodes)
 
   is_first_core : IsCore first_core
   is_first_core = record {
     built = built;
     small = small_first;
-    begun = sym (append_nil nodes);
+    begun = sym (append-nil nodes);
     times = refl;
     legal = record {
       is_trace = is_trace (first_moment ∷ []) small_first prog [] refl (is_first, tt);

@@ -1,7 +1,6 @@
 -- One node more: its row reads only nodes before it, so a further occurrence changes no earlier row.
-use Rattle.std.proofs.Common.{◌≡◌, ℕ, ◌+◌, ◌<◌, ◌≤◌, suc, zero, List, [], ◌∷◌, ◌++◌, length, take, drop, get_or, Option, Some, None, refl, sym, ap, ◌∙◌, subst, arith, zero-add, add-zero, add-one}
+use Rattle.std.proofs.Common.{◌≡◌, ℕ, ◌+◌, ◌<◌, ◌≤◌, suc, zero, List, [], ◌∷◌, ◌++◌, length, take, get_or, Option, refl, sym, ap, ◌∙◌, subst, arith, zero-add, add-zero}
 use Rattle.std.specs.Prelude.{slice_get, option_map, option_and_then}
-use Rattle.std.proofs.Math.Seq.{drop-cons}
 use Rattle.std.proofs.lemmas.Grind.{common_steps}
 use Rattle.std.proofs.lemmas.List.{take_more}
 use Rattle.frp_base.specs.declared.name.Name.{Name}
@@ -14,7 +13,7 @@ use Rattle.frp_graph.specs.declared.shape.Shape.{Shape}
 use Rattle.frp_graph.specs.declared.shape.Shape.TheVariants.{Sink, Never, Map, Filter, Hold}
 use Rattle.frp_graph.specs.Equations.{row}
 use Rattle.frp_run.specs.Small.{IsEarlier, IsSmall, AreSmallFrom}
-use Rattle.frp_run.specs.Engine.{sends_at, occ_at, sees, AreSettled, facts_of}
+use Rattle.frp_run.specs.Engine.{sends_at, occ_at, sees, AreSettled}
 
 -- the node at a position of the nodes is small there
 pub small_at : (k : ℕ) (xs : List Node) (i : ℕ) (d : Node) → i < length xs → AreSmallFrom k xs → IsSmall (k + i) (get_or xs i d).shape
@@ -86,19 +85,6 @@ module _ (prog : Prog) (place : ℕ) (sent : Option Fact) where
       rw f (settled_push (os ++ o ∷ []) (take i nodes) os x o
       (settled_seen os o 0 (take i nodes) os (omega arith) (small_front 0 i nodes s) a)
       (r ∙ sym (row_more os o i x x.shape (omega arith) m)))
-
--- the fact of a node with this occurrence, where it has one
-abbrev pub fact_here : Node → Option Val → List Fact
-fact_here x None = []
-fact_here x (Some v) = record { node = x.name; value = v } ∷ []
-
-first_fact : (x : Node) (o : Option Val) (xs : List Node) (os : List (Option Val)) → facts_of (x ∷ xs) (o ∷ os) ≡ fact_here x o ++ facts_of xs os
-first_fact x None xs os = refl
-first_fact x (Some v) xs os = refl
-
-pub facts_next : (xs : List Node) (os : List (Option Val)) (i : ℕ) (x : Node) → i < length xs → i < length os
-    → facts_of (drop i xs) (drop i os) ≡ fact_here (get_or xs i x) (get_or os i None) ++ facts_of (drop (i + 1) xs) (drop (i + 1) os)
-facts_next xs os i x h k = rw (add-one, drop-cons xs i x, drop-cons os i None) (first_fact (get_or xs i x) (get_or os i None) (drop (suc i) xs) (drop (suc i) os))
 
 module _ (prog : Prog) (place : ℕ) (sent : Option Fact) where
   -- the next node is small where as many occurrences as nodes before it are settled
