@@ -24,17 +24,17 @@ use Rattle.frp_expr.specs.Typing.{Sig}
 use Rattle.frp_expr.specs.Values.{is_of_step, is_of, are_of, all_of, each_of, is_closed_of}
 
 module _ (node_type : Name → Option Ty) (sigs : List Sig) where
-  abbrev Layer : Val-F Val → Ty → Ty-F Ty → Bool
+  abbrev pub Layer : Val-F Val → Ty → Ty-F Ty → Bool
   Layer l x w = is_of_step node_type sigs (map-Val Val (Ty → Bool) (is_of node_type sigs) l) x w
 
   -- a value and a type, each seen one layer deep
   of_layer : (l : Val-F Val) (x : Ty) (w : Ty-F Ty) → roll-Ty w ≡ x → is_of node_type sigs (roll-Val l) x ≡ Layer l x w
   of_layer l x w e = search (rules, fold-roll-Val, out-roll-Ty, e)
 
-  made : (y : Val) (l : Val-F Val) (x : Ty) (w : Ty-F Ty) → roll-Val l ≡ y → roll-Ty w ≡ x → Layer l x w ≡ true → is_of node_type sigs y x ≡ true
+  pub made : (y : Val) (l : Val-F Val) (x : Ty) (w : Ty-F Ty) → roll-Val l ≡ y → roll-Ty w ≡ x → Layer l x w ≡ true → is_of node_type sigs y x ≡ true
   made y l x w e f h = subst (λ (y : Val). is_of node_type sigs y x ≡ true) e (of_layer l x w f ∙ h)
 
-  opened : (y : Val) (x : Ty) (w : Ty-F Ty) → roll-Ty w ≡ x → is_of node_type sigs y x ≡ true → Layer (out-Val y) x w ≡ true
+  pub opened : (y : Val) (x : Ty) (w : Ty-F Ty) → roll-Ty w ≡ x → is_of node_type sigs y x ≡ true → Layer (out-Val y) x w ≡ true
   opened y x w f h = sym (of_layer (out-Val y) x w f) ∙ subst (λ (y : Val). is_of node_type sigs y x ≡ true) (sym (roll-out-Val y)) h
 
   pub int_is : (z : ℤ) → fits z ≡ true → is_of node_type sigs (v.Int z) t.Int ≡ true

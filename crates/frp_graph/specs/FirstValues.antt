@@ -1,5 +1,6 @@
--- The first value that a cell has at its birth, by its shape. A stream has none.
-use Rattle.std.specs.Prelude.{◌≡◌, List, [], ◌∷◌, None, IsSome, option_map, option_and_then}
+-- The nodes that are born, and the first value that a cell has at its birth, by its shape. A stream has none.
+use Rattle.std.specs.Prelude.{◌≡◌, List, [], ◌∷◌, Option, None, option_map, option_and_then, ⊤}
+use Rattle.frp_base.specs.declared.val.Val.{Val}
 use Rattle.frp_graph.specs.declared.trace.Node.{Node}
 use Rattle.frp_graph.specs.declared.prog.Prog.{Prog}
 use Rattle.frp_graph.specs.declared.shape.Shape.{Shape}
@@ -7,13 +8,27 @@ use Rattle.frp_graph.specs.declared.shape.Shape.TheVariants.{Constant, Hold, Map
 use Rattle.frp_graph.specs.Trace.{Sight, first_of, node_in}
 use Rattle.frp_graph.specs.Applied.{call, applied}
 use Rattle.frp_graph.specs.Equations.{target}
+use Rattle.frp_graph.specs.Births.{Made}
 
--- a node of this shape, born at the time of the sight among these live nodes, has its first value
-abbrev pub HasFirst : Prog → List Node → Sight → Node → Shape → Type 0
-HasFirst prog nodes w x Constant = IsSome x.first
-HasFirst prog nodes w x (Hold s) = IsSome x.first
-HasFirst prog nodes w x (Mapc f c) = x.first ≡ option_map (λ v. call prog f (v ∷ [])) (w.pre c)
-HasFirst prog nodes w x (Apply cf ca) = x.first ≡ option_and_then (λ f. option_and_then (applied prog f) (w.pre ca)) (w.pre cf)
-HasFirst prog nodes w x (Switchc c) = x.first ≡ option_and_then (λ d. w.pre (target d)) (w.pre c)
-HasFirst prog nodes w x (Loop to) = x.first ≡ option_and_then first_of (node_in nodes to)
-HasFirst prog nodes w x _ = x.first ≡ None
+-- the first value of a node of this shape, born at the time of the sight among these live nodes; some have a given one
+abbrev pub first_value : Prog → List Node → Sight → Option Val → Shape → Option Val
+first_value prog nodes w given Constant = given
+first_value prog nodes w given (Hold s) = given
+first_value prog nodes w given (Mapc f c) = option_map (λ v. call prog f (v ∷ [])) (w.pre c)
+first_value prog nodes w given (Apply cf ca) = option_and_then (λ f. option_and_then (applied prog f) (w.pre ca)) (w.pre cf)
+first_value prog nodes w given (Switchc c) = option_and_then (λ d. w.pre (target d)) (w.pre c)
+first_value prog nodes w given (Loop to) = option_and_then first_of (node_in nodes to)
+first_value prog nodes w given _ = None
+
+-- a node is born as it was made, with its first value
+pub record IsBorn (prog : Prog) (nodes : List Node) (w : Sight) (d : Made) (x : Node) : Type 0 where
+  pub name : x.name ≡ d.name
+  pub shape : x.shape ≡ d.shape
+  pub ty : x.ty ≡ d.ty
+  pub first : x.first ≡ first_value prog nodes w d.given d.shape
+
+-- nodes are born as they were made, one by one
+abbrev pub AreBorn : Prog → List Node → Sight → List Made → List Node → Type 0
+AreBorn prog nodes w [] [] = ⊤
+AreBorn prog nodes w (d ∷ ds) (x ∷ xs) = IsBorn prog nodes w d x × AreBorn prog nodes w ds xs
+AreBorn prog nodes w _ _ = ⊥

@@ -1,7 +1,9 @@
 pub mod Trace
 pub mod Applied
 pub mod Values
+pub mod TypedProg
 pub mod Equations
+pub mod Births
 pub mod FirstValues
 pub mod Moments
 pub mod History

@@ -15,7 +15,8 @@ use Rattle.frp_graph.specs.declared.shape.Shape.{Shape}
 use Rattle.frp_graph.specs.declared.shape.Shape.TheVariants.{Split}
 use Rattle.frp_graph.specs.Trace.{live, moment_at, occ, node_in, sight_of}
 use Rattle.frp_graph.specs.Equations.{Sent, MeetsEquation}
-use Rattle.frp_graph.specs.FirstValues.{HasFirst}
+use Rattle.frp_graph.specs.Births.{Made, file_made}
+use Rattle.frp_graph.specs.FirstValues.{AreBorn}
 
 -- the time of the build
 abbrev pub build : Time
@@ -46,14 +47,13 @@ is_child_due trace (Some p) = splits_at trace p.0 p.1 (moment_at trace p.0)
 abbrev pub is_due : List Sent → List Moment → Time → Bool
 is_due sends trace t = time_eq build t || list_any (λ s. time_eq (s.place ∷ []) t) sends || is_child_due trace (parent_and_number t)
 
--- the nodes that a program has born at a time: at the build, those of its file
-abbrev pub born_at : Prog → Time → List Node
-born_at prog t = if time_eq t build then prog.nodes else []
+-- the nodes that a program makes at a time: at the build, those of its file
+abbrev pub made_at : Prog → Time → List Made
+made_at prog t = if time_eq t build then file_made prog else []
 
 -- Moment m, after the moments before it, is one that the program has where these are the sends.
 pub record IsMoment (prog : Prog) (sends : List Sent) (past : List Moment) (m : Moment) : Type 0 where
-  pub born : m.born ≡ born_at prog m.time
-  pub firsts : AllByRecursion (λ x. HasFirst prog (live (past ++ m ∷ [])) (sight_of past m) x x.shape) m.born
+  pub born : AreBorn prog (live (past ++ m ∷ [])) (sight_of past m) (made_at prog m.time) m.born
   pub equations : AllByRecursion (MeetsEquation prog sends (sight_of past m)) (live (past ++ m ∷ []))
   pub facts_of_live : AllByRecursion (λ f. IsTrue (is_some (node_in (live (past ++ m ∷ [])) f.node))) m.fired
   pub born_rise : IsStrictlySortedBy name_cmp (map (λ x. x.name) m.born)

@@ -1,4 +1,3 @@
-use crate::trace::Node;
 use frp_base::{Seq, Ty};
 use frp_expr::Expr;
 
@@ -12,11 +11,100 @@ pub struct FunDef {
     pub e: Expr,
 }
 
-/// A program: its expressions and its functions, each by number from 0, and the nodes of its file in the order of the
-/// items.
+/// A program: its expressions, its functions and its templates, each by number from 0, and the body of its file.
 #[derive(Drop)]
 pub struct Prog {
     pub codes: Seq<Expr>,
     pub funs: Seq<FunDef>,
-    pub nodes: Seq<Node>,
+    pub templates: Seq<Body>,
+    pub body: Body,
+}
+
+/// The body of a template, or of the file, which has no parameter, no kept values and gives nothing. Its expressions are
+/// over its values: the parameter, the kept values, and then for each line its node's reference or the value got.
+#[derive(Drop)]
+pub struct Body {
+    pub param: Option<Ty>,
+    pub kept: Seq<Ty>,
+    pub lines: Seq<Line3>,
+    pub give: Option<Expr>,
+}
+
+/// A line of a body: it makes a node of this type and shape, or gets the value of a cell.
+#[derive(Drop)]
+pub enum Line3 {
+    Node { ty: Ty, shape: LineShape },
+    Get { c: Expr },
+}
+
+/// An expression of the program, by its number from 0, over these values of the body, by their positions from 0, followed
+/// by its arguments.
+#[derive(Drop)]
+pub struct LineLam {
+    pub code: u32,
+    pub kept: Seq<u64>,
+}
+
+/// The shape of the node that a line makes, with its operands: a variant for each of `Shape`. `to` is the position, in all
+/// the values of the body, of the node that a loop is tied to.
+#[derive(Drop)]
+pub enum LineShape {
+    Sink,
+    Never,
+    Constant {
+        o: Expr,
+    },
+    Map {
+        f: LineLam,
+        s: Expr,
+    },
+    Filter {
+        f: LineLam,
+        s: Expr,
+    },
+    Merge {
+        f: LineLam,
+        a: Expr,
+        b: Expr,
+    },
+    Snapshot {
+        f: LineLam,
+        s: Expr,
+        c: Expr,
+    },
+    Split {
+        s: Expr,
+    },
+    Updates {
+        c: Expr,
+    },
+    Value {
+        c: Expr,
+    },
+    Loop {
+        to: u64,
+    },
+    Hold {
+        o: Expr,
+        s: Expr,
+    },
+    Mapc {
+        f: LineLam,
+        c: Expr,
+    },
+    Apply {
+        cf: Expr,
+        ca: Expr,
+    },
+    Switchs {
+        c: Expr,
+    },
+    Switchc {
+        c: Expr,
+    },
+    Execute {
+        s: Expr,
+        template: u32,
+        kept: Seq<Expr>,
+    },
 }

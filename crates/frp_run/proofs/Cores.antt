@@ -5,7 +5,7 @@ use Rattle.std.specs.List.{AllByRecursion}
 use Rattle.std.proofs.lemmas.Bool.Decides.{nat_tests}
 use Rattle.frp_base.specs.declared.name.Name.{Name}
 use Rattle.frp_base.specs.Time.{time_eq}
-use Rattle.frp_expr.specs.declared.expr.Expr.{Expr}
+use Rattle.frp_graph.specs.declared.prog.Prog.{Prog}
 use Rattle.frp_graph.specs.declared.trace.Node.{Node}
 use Rattle.frp_graph.specs.declared.trace.Fact.{Fact}
 use Rattle.frp_graph.specs.declared.trace.Moment.{Moment}
@@ -14,26 +14,24 @@ use Rattle.frp_graph.specs.declared.history.Delivered.{Delivered}
 use Rattle.frp_graph.specs.declared.history.Cmd.TheVariants.{Send, Join, Leave}
 use Rattle.frp_graph.specs.declared.history.Reply.TheVariants.{Accepted, Joined, Left}
 use Rattle.frp_graph.specs.declared.history.Entry.{Entry}
-use Rattle.frp_graph.specs.Trace.{live, node_in}
+use Rattle.frp_graph.specs.Trace.{Sight, live, node_in, sight_of}
 use Rattle.frp_graph.specs.Equations.{Sent}
-use Rattle.frp_graph.specs.Moments.{build, born_at, IsMoment, AtEach}
+use Rattle.frp_graph.specs.Births.{file_made}
+use Rattle.frp_graph.specs.FirstValues.{AreBorn}
+use Rattle.frp_graph.specs.Moments.{build, made_at, IsMoment, AtEach}
 use Rattle.frp_graph.specs.History.{send_of, sends_of, entry_at}
 use Rattle.frp_graph.specs.Windows.{window}
 use Rattle.frp_graph.specs.Legal.{is_of, moments_of, is_sink, live_before, IsHeld, IsReply}
-use Rattle.frp_graph.proofs.Each.{each_more}
-use Rattle.frp_run.specs.Small.{AreSmallFrom}
-use Rattle.frp_run.specs.Engine.{program_of, AreFacts}
+use Rattle.frp_graph.proofs.Each.{append-nil, each_more}
+use Rattle.frp_run.specs.Small.{is_built, AreSmallFrom}
+use Rattle.frp_run.specs.Engine.{AreFacts}
 use Rattle.frp_run.specs.Core.{program, times_of, HasSlot, IsCore, Entered, HasLeft}
 use Rattle.frp_run.specs.declared.machine.Core.{Core}
 use Rattle.frp_run.proofs.Times.{IsBefore, at_place, sends_more, times_before, all_before, other_times, filter_append, filter_none, all_both, all_mapped, all_follow}
 use Rattle.frp_run.proofs.Settling.{settled_length}
-use Rattle.frp_run.proofs.NewMoment.{new_moment}
+use Rattle.frp_run.proofs.NewMoment.{nodes_rise, new_moment}
 use Rattle.frp_run.proofs.Traces.{is_trace, moment_sends, sent_more, sent_last, each_with, live_append}
 use Rattle.frp_run.proofs.Replies.{entry_bound, before_stays, replies_stay, replies_more}
-
-pub append_nil : {A : Type 0} (xs : List A) → xs ++ [] ≡ xs
-append_nil [] = refl
-append_nil (x ∷ xs) = ap (λ ys. x ∷ ys) (append_nil xs)
 
 map_append : {A B : Type 0} (f : A → B) (xs ys : List A) → map f (xs ++ ys) ≡ map f xs ++ map f ys
 map_append f [] ys = refl
@@ -77,13 +75,14 @@ module _ (c : Core) (core : IsCore c) where
   module _ (e : Entry) (none : send_of here e.cmd e.reply ≡ []) (slot : HasSlot e.reply)
       (reply : IsReply c.trace c.entries here e.caller e.cmd e.reply) where
     same_sends : sends_of (c.entries ++ e ∷ []) ≡ sends_of c.entries
-    same_sends = sends_more 1 here c.entries e (omega arith) ∙ ap (λ xs. sends_of c.entries ++ xs) none ∙ append_nil (sends_of c.entries)
+    same_sends = sends_more 1 here c.entries e (omega arith) ∙ ap (λ xs. sends_of c.entries ++ xs) none ∙ append-nil (sends_of c.entries)
 
     abbrev quiet : Core
-    quiet = record { codes = c.codes; entries = c.entries ++ e ∷ []; trace = c.trace }
+    quiet = record { prog = c.prog; entries = c.entries ++ e ∷ []; trace = c.trace }
 
     quiet_core : IsCore quiet
     quiet_core = record {
+      built = core.built;
       small = core.small;
       begun = core.begun;
       times = core.times ∙ ap (λ ss. build ∷ map at_place ss) (sym same_sends);
@@ -95,13 +94,13 @@ module _ (c : Core) (core : IsCore c) where
       slots = all_both (λ e. HasSlot e.reply) c.entries (e ∷ []) core.slots (slot, tt);
     }
 
-    pub quiet_entered : (entries : List Entry) → entries ≡ c.entries ++ e ∷ [] → Entered c (record { codes = c.codes; entries = entries; trace = c.trace }) e
-    quiet_entered entries q = subst (λ es. Entered c (record { codes = c.codes; entries = es; trace = c.trace }) e) (sym q)
+    pub quiet_entered : (entries : List Entry) → entries ≡ c.entries ++ e ∷ [] → Entered c (record { prog = c.prog; entries = entries; trace = c.trace }) e
+    quiet_entered entries q = subst (λ es. Entered c (record { prog = c.prog; entries = es; trace = c.trace }) e) (sym q)
         (record { core = quiet_core; program_stays = refl; entries = refl })
 
   pub join_entered : (caller : ℕ) (node : Name) (entries : List Entry) → IsSome (node_in (live c.trace) node)
       → entries ≡ c.entries ++ record { caller = caller; cmd = Join node; reply = Joined (record { slot = here; place = here }) } ∷ []
-      → Entered c (record { codes = c.codes; entries = entries; trace = c.trace }) (record { caller = caller; cmd = Join node; reply = Joined (record { slot = here; place = here }) })
+      → Entered c (record { prog = c.prog; entries = entries; trace = c.trace }) (record { caller = caller; cmd = Join node; reply = Joined (record { slot = here; place = here }) })
   join_entered caller node entries l q = quiet_entered (record { caller = caller; cmd = Join node; reply = Joined (record { slot = here; place = here }) }) refl refl (
     subst (λ nodes. IsSome (node_in nodes node)) (sym live_here) l,
     refl,
@@ -114,14 +113,14 @@ module _ (c : Core) (core : IsCore c) where
 
   pub leave_entered : (caller : ℕ) (key : Key) (node : Name) (items : List Delivered) (entries : List Entry) → IsHeld c.entries caller key node → items ≡ window c.trace node key.place here
       → entries ≡ c.entries ++ record { caller = caller; cmd = Leave key; reply = Left items } ∷ []
-      → HasLeft c (record { codes = c.codes; entries = entries; trace = c.trace }) caller key
+      → HasLeft c (record { prog = c.prog; entries = entries; trace = c.trace }) caller key
   leave_entered caller key node items entries h w q = record {
     items = items;
     entered = quiet_entered (record { caller = caller; cmd = Leave key; reply = Left items }) refl tt (node, (h, w)) entries q;
   }
 
   -- A send.
-  module _ (caller : ℕ) (f : Fact) (fired : List Fact) (facts : AreFacts (program_of c.codes (live c.trace)) here (Some f) fired)
+  module _ (caller : ℕ) (f : Fact) (fired : List Fact) (facts : AreFacts c.prog (live c.trace) here (Some f) fired)
       (sink : is_sink (node_in (live c.trace) f.node) ≡ true) where
     abbrev m : Moment
     m = record { time = here ∷ []; born = []; fired = fired }
@@ -136,13 +135,13 @@ module _ (c : Core) (core : IsCore c) where
     more_sends = sends_more 1 here c.entries e (omega arith)
 
     live_stays : live (c.trace ++ m ∷ []) ≡ live c.trace
-    live_stays = live_append c.trace (m ∷ []) ∙ append_nil (live c.trace)
+    live_stays = live_append c.trace (m ∷ []) ∙ append-nil (live c.trace)
 
     more_times : map (λ m. m.time) (c.trace ++ m ∷ []) ≡ times_of (c.entries ++ e ∷ [])
     more_times = map_append (λ m. m.time) c.trace (m ∷ []) ∙ ap (λ ts. ts ++ (here ∷ []) ∷ []) core.times
         ∙ ap (λ ts. build ∷ ts) (sym (map_append at_place (sends_of c.entries) (s ∷ []))) ∙ ap (λ ss. build ∷ map at_place ss) (sym more_sends)
 
-    not_build : born_at (program c) (here ∷ []) ≡ []
+    not_build : made_at c.prog (here ∷ []) ≡ []
     not_build = let z : (here == 0) ≡ false = grind (arith, nat_tests) in rw z refl
 
     old_moments : AtEach (IsMoment (program c) (sends_of c.entries ++ s ∷ [])) [] c.trace
@@ -151,13 +150,10 @@ module _ (c : Core) (core : IsCore c) where
         [] c.trace core.legal.is_trace.moments (other_times here c.trace moments_here)
 
     last_moment : IsMoment (program c) (sends_of c.entries ++ s ∷ []) c.trace m
-    last_moment = new_moment (program c) (sends_of c.entries ++ s ∷ []) here (Some f) c.trace m facts.occs refl facts.fired core.small
-        (settled_length (program c) here (Some f) facts.occs (live c.trace) facts.occs facts.settled)
+    last_moment = new_moment c.prog (live c.trace) (sends_of c.entries ++ s ∷ []) here (Some f) c.trace m facts.occs refl facts.fired core.small
+        (settled_length c.prog here (Some f) facts.occs (live c.trace) facts.occs facts.settled)
         (λ n. sent_last (sends_of c.entries) s (here ∷ []) n sends_here)
-        facts.settled (sym not_build) live_stays
-
-    same_program : record { codes = c.codes; funs = []; nodes = live (c.trace ++ m ∷ []) } ≡ program c
-    same_program = ap (λ ns. program_of c.codes ns) live_stays
+        facts.settled (subst (λ ds. AreBorn c.prog (live (c.trace ++ m ∷ [])) (sight_of c.trace m) ds []) (sym not_build) tt) (nodes_rise 0 [] tt) live_stays
 
     none_here : filter (λ k. is_of here k.time) c.trace ≡ []
     none_here = filter_none (λ k. is_of here k.time) c.trace (all_follow _ _ (λ k b. ap (is_of here) b.1.0 ∙ below b.0 here b.1.1) c.trace moments_here) where
@@ -174,18 +170,18 @@ module _ (c : Core) (core : IsCore c) where
     sink_before = ap (λ ms. is_sink (node_in (live ms) f.node)) (before_stays c.trace m here refl here (omega arith) ∙ all_before here c.trace moments_here) ∙ sink
 
     abbrev after : Core
-    after = record { codes = c.codes; entries = c.entries ++ e ∷ []; trace = c.trace ++ m ∷ [] }
+    after = record { prog = c.prog; entries = c.entries ++ e ∷ []; trace = c.trace ++ m ∷ [] }
 
     small_after : AreSmallFrom 0 (live (c.trace ++ m ∷ []))
     small_after = subst (AreSmallFrom 0) (sym live_stays) core.small
 
     each_moment : AtEach (IsMoment (program after) (sends_of (c.entries ++ e ∷ []))) [] (c.trace ++ m ∷ [])
-    each_moment = subst (λ p. AtEach (IsMoment p (sends_of (c.entries ++ e ∷ []))) [] (c.trace ++ m ∷ [])) (sym same_program)
-        (subst (λ ss. AtEach (IsMoment (program c) ss) [] (c.trace ++ m ∷ [])) (sym more_sends)
-        (each_more (IsMoment (program c) (sends_of c.entries ++ s ∷ [])) [] c.trace m old_moments last_moment))
+    each_moment = subst (λ ss. AtEach (IsMoment (program c) ss) [] (c.trace ++ m ∷ [])) (sym more_sends)
+        (each_more (IsMoment (program c) (sends_of c.entries ++ s ∷ [])) [] c.trace m old_moments last_moment)
 
     send_core : IsCore after
     send_core = record {
+      built = core.built;
       small = small_after;
       begun = subst (λ ns. IsSomeAnd (slice_get (c.trace ++ m ∷ []) 0) (λ k. k.born ≡ ns)) (sym live_stays) (begun_more (λ k. k.born ≡ live c.trace) c.trace m core.begun);
       times = more_times;
@@ -197,10 +193,10 @@ module _ (c : Core) (core : IsCore c) where
     }
 
     pub send_entered : (entries : List Entry) (trace : List Moment) → entries ≡ c.entries ++ e ∷ [] → trace ≡ c.trace ++ m ∷ []
-        → Entered c (record { codes = c.codes; entries = entries; trace = trace }) e
-    send_entered entries trace p q = subst (λ es. Entered c (record { codes = c.codes; entries = es; trace = trace }) e) (sym p)
-        (subst (λ ts. Entered c (record { codes = c.codes; entries = c.entries ++ e ∷ []; trace = ts }) e) (sym q)
-        (record { core = send_core; program_stays = same_program; entries = refl }))
+        → Entered c (record { prog = c.prog; entries = entries; trace = trace }) e
+    send_entered entries trace p q = subst (λ es. Entered c (record { prog = c.prog; entries = es; trace = trace }) e) (sym p)
+        (subst (λ ts. Entered c (record { prog = c.prog; entries = c.entries ++ e ∷ []; trace = ts }) e) (sym q)
+        (record { core = send_core; program_stays = refl; entries = refl }))
 
 -- a fact of the answer at Ok, from another
 pub on_ok : {T E P Q : Type 0} (r : Result T E) → (P → Q) → OnOk r P → OnOk r Q
@@ -208,34 +204,34 @@ on_ok (Ok x) f h = f h
 on_ok (Err e) f h = tt
 
 -- After the build.
-module _ (codes : List Expr) (nodes : List Node) (fired : List Fact) (small : AreSmallFrom 0 nodes) (facts : AreFacts (program_of codes nodes) 0 None fired) where
+module _ (prog : Prog) (nodes : List Node) (fired : List Fact) (built : is_built prog ≡ true) (small : AreSmallFrom 0 nodes)
+    (born : (all : List Node) (w : Sight) → AreBorn prog all w (file_made prog) nodes) (facts : AreFacts prog nodes 0 None fired) where
   abbrev first_moment : Moment
   first_moment = record { time = build; born = nodes; fired = fired }
 
   abbrev first_core : Core
-  first_core = record { codes = codes; entries = []; trace = first_moment ∷ [] }
-
-  same_nodes : program first_core ≡ program_of codes nodes
-  same_nodes = ap (program_of codes) (append_nil nodes)
+  first_core = record { prog = prog; entries = []; trace = first_moment ∷ [] }
 
   small_first : AreSmallFrom 0 (live (first_moment ∷ []))
-  small_first = subst (AreSmallFrom 0) (sym (append_nil nodes)) small
+  small_first = subst (AreSmallFrom 0) (sym (append-nil nodes)) small
 
-  is_first : IsMoment (program_of codes nodes) [] [] first_moment
-  is_first = new_moment (program_of codes nodes) [] 0 None [] first_moment facts.occs refl facts.fired small
-      (settled_length (program_of codes nodes) 0 None facts.occs nodes facts.occs facts.settled) (λ n. refl) facts.settled refl (append_nil nodes)
+  is_first : IsMoment prog [] [] first_moment
+  is_first = new_moment prog nodes [] 0 None [] first_moment facts.occs refl facts.fired small
+      (settled_length prog 0 None facts.occs nodes facts.occs facts.settled) (λ n. refl) facts.settled
+      (born (live (first_moment ∷ [])) (sight_of [] first_moment)) (nodes_rise 0 nodes small) (append-nil nodes)
 
   is_first_core : IsCore first_core
   is_first_core = record {
+    built = built;
     small = small_first;
-    begun = sym (append_nil nodes);
+    begun = sym (append-nil nodes);
     times = refl;
     legal = record {
-      is_trace = is_trace (first_moment ∷ []) small_first (program first_core) [] refl (subst (λ p. IsMoment p [] [] first_moment) (sym same_nodes) is_first, tt);
+      is_trace = is_trace (first_moment ∷ []) small_first prog [] refl (is_first, tt);
       replies = tt;
     };
     slots = tt;
   }
 
-  pub build_core : (entries : List Entry) (trace : List Moment) → entries ≡ [] → trace ≡ first_moment ∷ [] → IsCore (record { codes = codes; entries = entries; trace = trace })
-  build_core entries trace p q = subst (λ es. IsCore (record { codes = codes; entries = es; trace = trace })) (sym p) (subst (λ ts. IsCore (record { codes = codes; entries = []; trace = ts })) (sym q) is_first_core)
+  pub build_core : (entries : List Entry) (trace : List Moment) → entries ≡ [] → trace ≡ first_moment ∷ [] → IsCore (record { prog = prog; entries = entries; trace = trace })
+  build_core entries trace p q = subst (λ es. IsCore (record { prog = prog; entries = es; trace = trace })) (sym p) (subst (λ ts. IsCore (record { prog = prog; entries = []; trace = ts })) (sym q) is_first_core)

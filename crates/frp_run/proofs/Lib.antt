@@ -1,4 +1,6 @@
 pub mod Settling
+pub mod Ready
+pub mod Lines
 pub mod Lookups
 pub mod Times
 pub mod Names
@@ -6,11 +8,10 @@ pub mod NewMoment
 pub mod Traces
 pub mod Replies
 pub mod Cores
-pub mod Programs
+pub mod Living
 pub mod Sending
 pub mod FileAgain
 pub mod FileForms
-pub mod FileTyped
 pub mod FileLawful
 pub mod FileLists
 pub mod FileSpelled

@@ -1,6 +1,6 @@
 -- The moment that the plain engine makes is one that the program has.
-use Rattle.std.proofs.Common.{◌≡◌, ℕ, ◌+◌, ◌<◌, suc, zero, Bool, true, false, List, [], ◌∷◌, ◌++◌, map, length, Option, Some, None, refl, sym, ap, ◌∙◌, subst, arith, zero-add, add-zero, append_assoc}
-use Rattle.std.specs.Prelude.{slice_get, option_map, option_and_then, is_some, if◌then◌else◌}
+use Rattle.std.proofs.Common.{◌≡◌, ℕ, ◌+◌, ◌<◌, suc, zero, true, false, List, [], ◌∷◌, ◌++◌, map, length, Option, Some, None, refl, sym, ap, ◌∙◌, subst, arith, zero-add, add-zero, append_assoc}
+use Rattle.std.specs.Prelude.{slice_get, option_map, option_and_then, is_some}
 use Rattle.std.specs.List.{AllByRecursion}
 use Rattle.std.specs.List.Sorted.{IsStrictlySortedBy}
 use Rattle.std.specs.declared.cmp.Ordering.TheVariants.{Less}
@@ -12,11 +12,11 @@ use Rattle.frp_graph.specs.declared.trace.Fact.{Fact}
 use Rattle.frp_graph.specs.declared.trace.Moment.{Moment}
 use Rattle.frp_graph.specs.declared.prog.Prog.{Prog}
 use Rattle.frp_graph.specs.declared.shape.Shape.{Shape}
-use Rattle.frp_graph.specs.declared.shape.Shape.TheVariants.{Sink, Map, Filter, Hold}
-use Rattle.frp_graph.specs.Trace.{or_else, fact_in, node_in, live, occ, Sight, sight_of}
+use Rattle.frp_graph.specs.declared.shape.Shape.TheVariants.{Sink, Never, Map, Filter, Hold}
+use Rattle.frp_graph.specs.Trace.{or_else, fact_in, node_in, live, occ, sight_of}
 use Rattle.frp_graph.specs.Equations.{Sent, sent_in, row, MeetsEquation}
-use Rattle.frp_graph.specs.FirstValues.{HasFirst}
-use Rattle.frp_graph.specs.Moments.{born_at, IsMoment}
+use Rattle.frp_graph.specs.FirstValues.{AreBorn}
+use Rattle.frp_graph.specs.Moments.{made_at, IsMoment}
 use Rattle.frp_run.specs.Small.{IsEarlier, IsSmall, AreSmallFrom}
 use Rattle.frp_run.specs.Engine.{sends_at, occ_at, sees, AreSettled, facts_of}
 use Rattle.frp_run.proofs.Lookups.{node_in_append}
@@ -104,45 +104,24 @@ found_after front (x ∷ xs) = (
 pub found_all : (xs : List Node) → AllByRecursion (λ x. is_some (node_in xs x.name) ≡ true) xs
 found_all xs = found_after [] xs
 
--- First values.
-
-has_first : (prog : Prog) (nodes : List Node) (w : Sight) (k : ℕ) (x : Node) (s : Shape) → IsSmall k x s → HasFirst prog nodes w x s
-has_first prog nodes w k x Sink h = h
-has_first prog nodes w k x (Map f s) h = h.1
-has_first prog nodes w k x (Filter f s) h = h.1
-has_first prog nodes w k x (Hold s) h = h.1
-has_first prog nodes w k x _ h = absurd h
-
-firsts_from : (prog : Prog) (nodes : List Node) (w : Sight) (k : ℕ) (xs : List Node) → AreSmallFrom k xs → AllByRecursion (λ x. HasFirst prog nodes w x x.shape) xs
-firsts_from prog nodes w k [] s = tt
-firsts_from prog nodes w k (x ∷ xs) s = (has_first prog nodes w k x x.shape s.1, firsts_from prog nodes w (k + 1) xs s.2)
-
-born_firsts : (prog : Prog) (nodes : List Node) (w : Sight) (b : Bool) → AreSmallFrom 0 prog.nodes → AllByRecursion (λ x. HasFirst prog nodes w x x.shape) (if b then prog.nodes else [])
-born_firsts prog nodes w true s = firsts_from prog nodes w 0 prog.nodes s
-born_firsts prog nodes w false s = tt
-
-born_names_rise : (prog : Prog) (b : Bool) → AreSmallFrom 0 prog.nodes → IsStrictlySortedBy name_cmp (map (λ x. x.name) (if b then prog.nodes else []))
-unfolding IsStrictlySortedBy
-born_names_rise prog true s = nodes_rise 0 prog.nodes s
-born_names_rise prog false s = tt
-
 -- The equations.
 
-module _ (prog : Prog) (sends : List Sent) (place : ℕ) (sent : Option Fact) (past : List Moment) (m : Moment) (occs : List (Option Val))
-    (time : m.time ≡ place ∷ []) (fired : m.fired ≡ facts_of prog.nodes occs) (small : AreSmallFrom 0 prog.nodes)
-    (same : length occs ≡ length prog.nodes)
+module _ (prog : Prog) (nodes : List Node) (sends : List Sent) (place : ℕ) (sent : Option Fact) (past : List Moment) (m : Moment) (occs : List (Option Val))
+    (time : m.time ≡ place ∷ []) (fired : m.fired ≡ facts_of nodes occs) (small : AreSmallFrom 0 nodes)
+    (same : length occs ≡ length nodes)
     (agree : (n : Name) → sent_in sends (place ∷ []) n ≡ sent_in (sends_at place sent) (place ∷ []) n) where
   found : (i : ℕ) → occ m (declared_name i) ≡ flat (slice_get occs i)
-  found i = ap (λ fs. fact_in fs (declared_name i)) fired ∙ ap (λ j. fact_in (facts_of prog.nodes occs) (declared_name j)) (sym (zero-add i)) ∙ fact_found 0 i prog.nodes occs same small
+  found i = ap (λ fs. fact_in fs (declared_name i)) fired ∙ ap (λ j. fact_in (facts_of nodes occs) (declared_name j)) (sym (zero-add i)) ∙ fact_found 0 i nodes occs same small
 
   seen : (k : ℕ) (n : Name) → IsEarlier k n → occ m n ≡ occ_at occs n
   seen k n e = ap (occ m) e.1.1 ∙ found e.0 ∙ ap (λ j. flat (slice_get occs j)) (sym (ap item_of e.1.1))
 
-  row_seen : (k : ℕ) (x : Node) (s : Shape) → IsSmall k x s → row prog sends (sight_of past m) x s ≡ row prog (sends_at place sent) (sees place occs) x s
+  row_seen : (k : ℕ) (x : Node) (s : Shape) → IsSmall k s → row prog sends (sight_of past m) x s ≡ row prog (sends_at place sent) (sees place occs) x s
   row_seen k x Sink h = ap (λ t. sent_in sends t x.name) time ∙ agree x.name
-  row_seen k x (Map f s) h = ap (option_map _) (seen k s h.0)
-  row_seen k x (Filter f s) h = ap (option_and_then _) (seen k s h.0)
-  row_seen k x (Hold s) h = seen k s h.0
+  row_seen k x Never h = refl
+  row_seen k x (Map f s) h = ap (option_map _) (seen k s h)
+  row_seen k x (Filter f s) h = ap (option_and_then _) (seen k s h)
+  row_seen k x (Hold s) h = seen k s h
   row_seen k x _ h = absurd h
 
   meets_from : (k : ℕ) (xs : List Node) (ys : List (Option Val)) → AreSmallFrom k xs → AreSettled prog place sent occs xs ys
@@ -154,16 +133,16 @@ module _ (prog : Prog) (sends : List Sent) (place : ℕ) (sent : Option Fact) (p
     meets_from (k + 1) xs ys s.2 a.1 (λ i. let q : (k + 1) + i ≡ k + suc i = omega arith in ap (λ j. occ m (declared_name j)) q ∙ f (suc i)),
   )
 
-  pub new_moment : AreSettled prog place sent occs prog.nodes occs → m.born ≡ born_at prog m.time → live (past ++ m ∷ []) ≡ prog.nodes → IsMoment prog sends past m
-  new_moment a b l = record {
+  pub new_moment : AreSettled prog place sent occs nodes occs → AreBorn prog (live (past ++ m ∷ [])) (sight_of past m) (made_at prog m.time) m.born
+      → IsStrictlySortedBy name_cmp (map (λ x. x.name) m.born) → live (past ++ m ∷ []) ≡ nodes → IsMoment prog sends past m
+  new_moment a b r l = record {
     born = b;
-    firsts = subst (AllByRecursion (λ x. HasFirst prog (live (past ++ m ∷ [])) (sight_of past m) x x.shape)) (sym b) (born_firsts prog (live (past ++ m ∷ [])) (sight_of past m) _ small);
     equations = subst (AllByRecursion (MeetsEquation prog sends (sight_of past m))) (sym l)
-        (meets_from 0 prog.nodes occs small a (λ i. ap (λ j. occ m (declared_name j)) (zero-add i) ∙ found i));
+        (meets_from 0 nodes occs small a (λ i. ap (λ j. occ m (declared_name j)) (zero-add i) ∙ found i));
     facts_of_live = subst (λ nodes. AllByRecursion (λ f. is_some (node_in nodes f.node) ≡ true) m.fired) (sym l)
-        (subst (AllByRecursion (λ f. is_some (node_in prog.nodes f.node) ≡ true)) (sym fired)
-        (all_mapped (λ f. f.node) (λ n. is_some (node_in prog.nodes n) ≡ true) (facts_of prog.nodes occs)
-        (facts_all (λ n. is_some (node_in prog.nodes n) ≡ true) prog.nodes occs (found_all prog.nodes))));
-    born_rise = subst (λ xs. IsStrictlySortedBy name_cmp (map (λ x. x.name) xs)) (sym b) (born_names_rise prog _ small);
-    fired_rise = subst (λ fs. IsStrictlySortedBy name_cmp (map (λ f. f.node) fs)) (sym fired) (facts_rise 0 prog.nodes occs small);
+        (subst (AllByRecursion (λ f. is_some (node_in nodes f.node) ≡ true)) (sym fired)
+        (all_mapped (λ f. f.node) (λ n. is_some (node_in nodes n) ≡ true) (facts_of nodes occs)
+        (facts_all (λ n. is_some (node_in nodes n) ≡ true) nodes occs (found_all nodes))));
+    born_rise = r;
+    fired_rise = subst (λ fs. IsStrictlySortedBy name_cmp (map (λ f. f.node) fs)) (sym fired) (facts_rise 0 nodes occs small);
   }

@@ -17,11 +17,8 @@ use Rattle.frp_graph.specs.Trace.{live, node_in, moments_before, value_after}
 use Rattle.frp_graph.specs.History.{entry_at}
 use Rattle.frp_graph.specs.Windows.{window, between, item_between, is_cell, delivered}
 use Rattle.frp_graph.specs.Legal.{is_of, moments_of, is_sink, IsReply, AreReplies}
+use Rattle.frp_graph.proofs.Each.{append-nil}
 use Rattle.frp_run.proofs.Times.{time_not_less, filter_append}
-
-append_nil : {A : Type 0} (xs : List A) → xs ++ [] ≡ xs
-append_nil [] = refl
-append_nil (x ∷ xs) = ap (λ ys. x ∷ ys) (append_nil xs)
 
 pub entry_bound : (es : List Entry) (p : ℕ) (e : Entry) → entry_at es p ≡ Some e → p ≤ length es
 entry_bound es zero e h = omega arith
@@ -36,25 +33,25 @@ module _ (trace : List Moment) (m : Moment) (n : ℕ) (time : m.time ≡ n ∷ [
   pub before_stays : (k : ℕ) → k ≤ n → moments_before (k ∷ []) (trace ++ m ∷ []) ≡ moments_before (k ∷ []) trace
   before_stays k h =
       let e : is_lt (time_cmp m.time (k ∷ [])) ≡ false = ap (λ t. is_lt (time_cmp t (k ∷ []))) time ∙ time_not_less n k h in
-      filter_append (λ j. is_lt (time_cmp j.time (k ∷ []))) trace (m ∷ []) ∙ ap (λ xs. moments_before (k ∷ []) trace ++ xs) (rw e refl) ∙ append_nil (moments_before (k ∷ []) trace)
+      filter_append (λ j. is_lt (time_cmp j.time (k ∷ []))) trace (m ∷ []) ∙ ap (λ xs. moments_before (k ∷ []) trace ++ xs) (rw e refl) ∙ append-nil (moments_before (k ∷ []) trace)
 
   moments_stay : (k : ℕ) → k < n → moments_of k (trace ++ m ∷ []) ≡ moments_of k trace
   moments_stay k h =
       let e : is_of k m.time ≡ false = ap (is_of k) time ∙ (let d : (n == k) ≡ false = grind (arith, nat_tests) in d) in
-      ap length (filter_append (λ j. is_of k j.time) trace (m ∷ []) ∙ ap (λ xs. filter (λ j. is_of k j.time) trace ++ xs) (rw e refl) ∙ append_nil _)
+      ap length (filter_append (λ j. is_of k j.time) trace (m ∷ []) ∙ ap (λ xs. filter (λ j. is_of k j.time) trace ++ xs) (rw e refl) ∙ append-nil _)
 
   and_false : (a b : Bool) (xs : List Delivered) → b ≡ false → (if a && b then xs else []) ≡ []
   and_false true b xs e = rw e refl
   and_false false b xs e = refl
 
   between_append : (from to : Time) (name : Name) (ms : List Moment) → between from to name (ms ++ m ∷ []) ≡ between from to name ms ++ item_between from to name m
-  between_append from to name [] = append_nil (item_between from to name m)
+  between_append from to name [] = append-nil (item_between from to name m)
   between_append from to name (k ∷ ms) = ap (λ xs. item_between from to name k ++ xs) (between_append from to name ms) ∙ sym (append_assoc (item_between from to name k) (between from to name ms) (item_between from to name m))
 
   between_stays : (from : Time) (name : Name) (k : ℕ) → k ≤ n → between from (k ∷ []) name (trace ++ m ∷ []) ≡ between from (k ∷ []) name trace
   between_stays from name k h =
       let e : is_lt (time_cmp m.time (k ∷ [])) ≡ false = ap (λ t. is_lt (time_cmp t (k ∷ []))) time ∙ time_not_less n k h in
-      between_append from (k ∷ []) name trace ∙ ap (λ xs. between from (k ∷ []) name trace ++ xs) (and_false _ _ _ e) ∙ append_nil _
+      between_append from (k ∷ []) name trace ∙ ap (λ xs. between from (k ∷ []) name trace ++ xs) (and_false _ _ _ e) ∙ append-nil _
 
   window_stays : (name : Name) (j k : ℕ) → j ≤ n → k ≤ n → window (trace ++ m ∷ []) name j k ≡ window trace name j k
   window_stays name j k h l = λ i.
@@ -80,6 +77,6 @@ module _ (trace : List Moment) (m : Moment) (n : ℕ) (time : m.time ≡ n ∷ [
 -- one reply more
 pub replies_more : (trace : List Moment) (past es : List Entry) (e : Entry) → AreReplies trace past es
     → IsReply trace (past ++ es) (length (past ++ es) + 1) e.caller e.cmd e.reply → AreReplies trace past (es ++ e ∷ [])
-replies_more trace past [] e a r = (subst (λ ps. IsReply trace ps (length ps + 1) e.caller e.cmd e.reply) (append_nil past) r, tt)
+replies_more trace past [] e a r = (subst (λ ps. IsReply trace ps (length ps + 1) e.caller e.cmd e.reply) (append-nil past) r, tt)
 replies_more trace past (d ∷ es) e a r =
     (a.0, replies_more trace (past ++ d ∷ []) es e a.1 (subst (λ ps. IsReply trace ps (length ps + 1) e.caller e.cmd e.reply) (sym (append_assoc past (d ∷ []) es)) r))

@@ -1,7 +1,6 @@
 -- One node more: its row reads only nodes before it, so a further occurrence changes no earlier row.
-use Rattle.std.proofs.Common.{◌≡◌, ℕ, ◌+◌, ◌<◌, ◌≤◌, suc, zero, List, [], ◌∷◌, ◌++◌, length, take, drop, get_or, Option, Some, None, refl, sym, ap, ◌∙◌, subst, arith, zero-add, add-zero, add-one}
+use Rattle.std.proofs.Common.{◌≡◌, ℕ, ◌+◌, ◌<◌, ◌≤◌, suc, zero, List, [], ◌∷◌, ◌++◌, length, take, get_or, Option, refl, sym, ap, ◌∙◌, subst, arith, zero-add, add-zero}
 use Rattle.std.specs.Prelude.{slice_get, option_map, option_and_then}
-use Rattle.std.proofs.Math.Seq.{drop-cons}
 use Rattle.std.proofs.lemmas.Grind.{common_steps}
 use Rattle.std.proofs.lemmas.List.{take_more}
 use Rattle.frp_base.specs.declared.name.Name.{Name}
@@ -11,18 +10,18 @@ use Rattle.frp_graph.specs.declared.trace.Node.{Node}
 use Rattle.frp_graph.specs.declared.trace.Fact.{Fact}
 use Rattle.frp_graph.specs.declared.prog.Prog.{Prog}
 use Rattle.frp_graph.specs.declared.shape.Shape.{Shape}
-use Rattle.frp_graph.specs.declared.shape.Shape.TheVariants.{Sink, Map, Filter, Hold}
+use Rattle.frp_graph.specs.declared.shape.Shape.TheVariants.{Sink, Never, Map, Filter, Hold}
 use Rattle.frp_graph.specs.Equations.{row}
 use Rattle.frp_run.specs.Small.{IsEarlier, IsSmall, AreSmallFrom}
-use Rattle.frp_run.specs.Engine.{sends_at, occ_at, sees, AreSettled, facts_of}
+use Rattle.frp_run.specs.Engine.{sends_at, occ_at, sees, AreSettled}
 
 -- the node at a position of the nodes is small there
-pub small_at : (k : ℕ) (xs : List Node) (i : ℕ) (d : Node) → i < length xs → AreSmallFrom k xs → IsSmall (k + i) (get_or xs i d) (get_or xs i d).shape
+pub small_at : (k : ℕ) (xs : List Node) (i : ℕ) (d : Node) → i < length xs → AreSmallFrom k xs → IsSmall (k + i) (get_or xs i d).shape
 small_at k [] i d h s = absurd (omega arith)
-small_at k (x ∷ xs) zero d h s = subst (λ j. IsSmall j x x.shape) (sym (add-zero k)) s.1
+small_at k (x ∷ xs) zero d h s = subst (λ j. IsSmall j x.shape) (sym (add-zero k)) s.1
 small_at k (x ∷ xs) (suc i) d h s =
     let e : (k + 1) + i ≡ k + suc i = omega arith in
-    subst (λ j. IsSmall j (get_or xs i d) (get_or xs i d).shape) e (small_at (k + 1) xs i d (omega arith) s.2)
+    subst (λ j. IsSmall j (get_or xs i d).shape) e (small_at (k + 1) xs i d (omega arith) s.2)
 
 -- the first of nodes are small as all of them are
 pub small_front : (k n : ℕ) (xs : List Node) → AreSmallFrom k xs → AreSmallFrom k (take n xs)
@@ -43,12 +42,13 @@ occ_more os o k n h e =
     ap (λ p. option_and_then (λ (q : Option Val). q) p) (get_front os o (item_of n) l)
 
 module _ (prog : Prog) (place : ℕ) (sent : Option Fact) where
-  row_more : (os : List (Option Val)) (o : Option Val) (k : ℕ) (x : Node) (s : Shape) → k ≤ length os → IsSmall k x s
+  row_more : (os : List (Option Val)) (o : Option Val) (k : ℕ) (x : Node) (s : Shape) → k ≤ length os → IsSmall k s
       → row prog (sends_at place sent) (sees place (os ++ o ∷ [])) x s ≡ row prog (sends_at place sent) (sees place os) x s
   row_more os o k x Sink h e = refl
-  row_more os o k x (Map f s) h e = ap (option_map _) (occ_more os o k s h e.0)
-  row_more os o k x (Filter f s) h e = ap (option_and_then _) (occ_more os o k s h e.0)
-  row_more os o k x (Hold s) h e = occ_more os o k s h e.0
+  row_more os o k x Never h e = refl
+  row_more os o k x (Map f s) h e = ap (option_map _) (occ_more os o k s h e)
+  row_more os o k x (Filter f s) h e = ap (option_and_then _) (occ_more os o k s h e)
+  row_more os o k x (Hold s) h e = occ_more os o k s h e
   row_more os o k x _ h e = absurd e
 
   -- settled nodes stay settled where one more occurrence is seen
@@ -80,30 +80,17 @@ module _ (prog : Prog) (place : ℕ) (sent : Option Fact) where
   settled_more nodes os o i x s h e a r =
       let n : length os ≡ length (take i nodes) = settled_length os (take i nodes) os a in
       let l : length os ≡ i = n ∙ grind (arith, common_steps) in
-      let m : IsSmall i x x.shape = subst (λ y. IsSmall i y y.shape) (sym e) (subst (λ j. IsSmall j (get_or nodes i x) (get_or nodes i x).shape) (zero-add i) (small_at 0 nodes i x h s)) in
+      let m : IsSmall i x.shape = subst (λ y. IsSmall i y.shape) (sym e) (subst (λ j. IsSmall j (get_or nodes i x).shape) (zero-add i) (small_at 0 nodes i x h s)) in
       let f : take (i + 1) nodes ≡ take i nodes ++ x ∷ [] = take_more nodes i x h ∙ ap (λ y. take i nodes ++ y ∷ []) (sym e) in
       rw f (settled_push (os ++ o ∷ []) (take i nodes) os x o
       (settled_seen os o 0 (take i nodes) os (omega arith) (small_front 0 i nodes s) a)
       (r ∙ sym (row_more os o i x x.shape (omega arith) m)))
 
--- the fact of a node with this occurrence, where it has one
-abbrev pub fact_here : Node → Option Val → List Fact
-fact_here x None = []
-fact_here x (Some v) = record { node = x.name; value = v } ∷ []
-
-first_fact : (x : Node) (o : Option Val) (xs : List Node) (os : List (Option Val)) → facts_of (x ∷ xs) (o ∷ os) ≡ fact_here x o ++ facts_of xs os
-first_fact x None xs os = refl
-first_fact x (Some v) xs os = refl
-
-pub facts_next : (xs : List Node) (os : List (Option Val)) (i : ℕ) (x : Node) → i < length xs → i < length os
-    → facts_of (drop i xs) (drop i os) ≡ fact_here (get_or xs i x) (get_or os i None) ++ facts_of (drop (i + 1) xs) (drop (i + 1) os)
-facts_next xs os i x h k = rw (add-one, drop-cons xs i x, drop-cons os i None) (first_fact (get_or xs i x) (get_or os i None) (drop (suc i) xs) (drop (suc i) os))
-
 module _ (prog : Prog) (place : ℕ) (sent : Option Fact) where
   -- the next node is small where as many occurrences as nodes before it are settled
   pub small_here : (nodes : List Node) (os : List (Option Val)) (i : ℕ) (x : Node) → AreSmallFrom 0 nodes → i < length nodes → x ≡ get_or nodes i x
-      → AreSettled prog place sent os (take i nodes) os → IsSmall (length os) x x.shape
+      → AreSettled prog place sent os (take i nodes) os → IsSmall (length os) x.shape
   small_here nodes os i x s h e a =
       let n : length os ≡ length (take i nodes) = settled_length prog place sent os (take i nodes) os a in
       let l : 0 + i ≡ length os = zero-add i ∙ sym (n ∙ grind (arith, common_steps)) in
-      subst (λ j. IsSmall j x x.shape) l (subst (λ y. IsSmall (0 + i) y y.shape) (sym e) (small_at 0 nodes i x h s))
+      subst (λ j. IsSmall j x.shape) l (subst (λ y. IsSmall (0 + i) y.shape) (sym e) (small_at 0 nodes i x h s))

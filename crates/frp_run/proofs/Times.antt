@@ -6,7 +6,6 @@ use Rattle.std.specs.List.Sorted.{IsStrictlySortedBy}
 use Rattle.std.specs.Ordering.{nat_cmp, is_lt, ordering_then}
 use Rattle.std.specs.declared.cmp.Ordering.{Ordering}
 use Rattle.std.specs.declared.cmp.Ordering.TheVariants.{Less, Equal, Greater}
-use Rattle.std.proofs.lemmas.Grind.{common_steps}
 use Rattle.std.proofs.lemmas.Bool.Decides.{nat_tests}
 use Rattle.frp_base.specs.declared.time.Time.{Time}
 use Rattle.frp_base.specs.Time.{time_cmp, time_eq}
@@ -20,7 +19,6 @@ use Rattle.frp_graph.specs.Equations.{Sent}
 use Rattle.frp_graph.specs.History.{send_of, sends_from}
 use Rattle.frp_graph.specs.Moments.{build}
 use Rattle.frp_graph.specs.Trace.{moments_before}
-use Rattle.frp_graph.specs.Legal.{is_of, moments_of}
 use Rattle.frp_run.specs.Core.{times_of}
 
 -- what holds of each holds of each of two lists, and of what they are mapped to
@@ -125,9 +123,6 @@ filter_append {A} p (x ∷ xs) ys = here (p x) (filter_append p xs ys) where
 
 pub all_before : (n : ℕ) (ms : List Moment) → AllByRecursion (λ m. IsBefore n m.time) ms → moments_before (n ∷ []) ms ≡ ms
 all_before n ms h = filter_all (λ m. is_lt (time_cmp m.time (n ∷ []))) ms (all_follow _ _ (λ m b. ap (λ t. is_lt (time_cmp t (n ∷ []))) b.1.0 ∙ ap is_lt (time_less b.0 n b.1.1)) ms h)
-
-pub none_of : (n : ℕ) (ms : List Moment) → AllByRecursion (λ m. IsBefore n m.time) ms → moments_of n ms ≡ 0
-none_of n ms h = ap length (filter_none (λ m. is_of n m.time) ms (all_follow _ _ (λ m b. ap (is_of n) b.1.0 ∙ grind (arith, common_steps, b.1.1)) ms h))
 
 pub other_times : (n : ℕ) (ms : List Moment) → AllByRecursion (λ m. IsBefore n m.time) ms → AllByRecursion (λ m. time_eq m.time (n ∷ []) ≡ false) ms
 other_times n ms h = all_follow _ _ (λ m b. ap (λ t. time_eq t (n ∷ [])) b.1.0 ∙ differs b.0 n b.1.1) ms h where

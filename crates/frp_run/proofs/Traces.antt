@@ -12,7 +12,7 @@ use Rattle.frp_graph.specs.declared.trace.Node.{Node}
 use Rattle.frp_graph.specs.declared.trace.Moment.{Moment}
 use Rattle.frp_graph.specs.declared.prog.Prog.{Prog}
 use Rattle.frp_graph.specs.declared.shape.Shape.{Shape}
-use Rattle.frp_graph.specs.declared.shape.Shape.TheVariants.{Sink, Map, Filter, Hold}
+use Rattle.frp_graph.specs.declared.shape.Shape.TheVariants.{Sink, Never, Map, Filter, Hold}
 use Rattle.frp_graph.specs.declared.history.Entry.{Entry}
 use Rattle.frp_graph.specs.Trace.{live, moment_at, sight_of, Sight}
 use Rattle.frp_graph.specs.Equations.{Sent, sent_in, row}
@@ -40,19 +40,20 @@ any_none : {A : Type 0} (p : A → Bool) (xs : List A) → AllByRecursion (λ x.
 any_none p [] h = refl
 any_none p (x ∷ xs) h = rw h.0 (any_none p xs h.1)
 
-no_items : (m : Moment) (k : ℕ) (x : Node) (s : Shape) → IsSmall k x s → items_to_split m s ≡ 0
-no_items m k x Sink h = refl
-no_items m k x (Map f s) h = refl
-no_items m k x (Filter f s) h = refl
-no_items m k x (Hold s) h = refl
-no_items m k x _ h = absurd h
+no_items : (m : Moment) (k : ℕ) (s : Shape) → IsSmall k s → items_to_split m s ≡ 0
+no_items m k Sink h = refl
+no_items m k Never h = refl
+no_items m k (Map f s) h = refl
+no_items m k (Filter f s) h = refl
+no_items m k (Hold s) h = refl
+no_items m k _ h = absurd h
 
 abbrev SplitsNothing : Node → Type 0
 SplitsNothing x = (m : Moment) (i : ℕ) → nat_lt i (items_to_split m x.shape) ≡ false
 
 none_split : (k : ℕ) (xs : List Node) → AreSmallFrom k xs → AllByRecursion SplitsNothing xs
 none_split k [] s = tt
-none_split k (x ∷ xs) s = ((λ m i. ap (nat_lt i) (no_items m k x x.shape s.1) ∙ (let e : nat_lt i 0 ≡ false = grind (arith, nat_tests) in e)), none_split (k + 1) xs s.2)
+none_split k (x ∷ xs) s = ((λ m i. ap (nat_lt i) (no_items m k x.shape s.1) ∙ (let e : nat_lt i 0 ≡ false = grind (arith, nat_tests) in e)), none_split (k + 1) xs s.2)
 
 live_some : (P : Node → Type 0) (p : Moment → Bool) (ms : List Moment) → AllByRecursion P (live ms) → AllByRecursion P (live (filter p ms))
 live_some P p [] h = tt
@@ -98,7 +99,6 @@ row_sends prog sends others w x _ h = refl
 pub moment_sends : (prog : Prog) (sends others : List Sent) (past : List Moment) (m : Moment) → ((n : Name) → sent_in sends m.time n ≡ sent_in others m.time n) → IsMoment prog sends past m → IsMoment prog others past m
 moment_sends prog sends others past m h i = record {
   born = i.born;
-  firsts = i.firsts;
   equations = all_follow _ _ (λ x e. e ∙ row_sends prog sends others (sight_of past m) x x.shape h) (live (past ++ m ∷ [])) i.equations;
   facts_of_live = i.facts_of_live;
   born_rise = i.born_rise;

@@ -1,5 +1,5 @@
--- A core: the expressions of its program, its history and its trace, which are legal together.
-use Rattle.std.specs.Prelude.{◌≡◌, ℕ, List, [], ◌∷◌, ◌++◌, map, slice_get, IsSomeAnd, ⊤}
+-- A core: its program, its history and its trace, which are legal together.
+use Rattle.std.specs.Prelude.{◌≡◌, ℕ, List, [], ◌∷◌, ◌++◌, map, slice_get, IsTrue, IsSomeAnd, ⊤}
 use Rattle.std.specs.List.{AllByRecursion}
 use Rattle.frp_base.specs.declared.time.Time.{Time}
 use Rattle.frp_graph.specs.declared.prog.Prog.{Prog}
@@ -13,12 +13,11 @@ use Rattle.frp_graph.specs.Trace.{live}
 use Rattle.frp_graph.specs.Moments.{build}
 use Rattle.frp_graph.specs.History.{sends_of}
 use Rattle.frp_graph.specs.Legal.{IsLegal}
-use Rattle.frp_run.specs.Small.{AreSmallFrom}
+use Rattle.frp_run.specs.Small.{is_built, AreSmallFrom}
 use Rattle.frp_run.specs.declared.machine.Core.{Core}
 
--- the program: the core's expressions, and the nodes that were born
 abbrev pub program : Core → Prog
-program c = record { codes = c.codes; funs = []; nodes = live c.trace }
+program c = c.prog
 
 -- the build, and the place of each accepted send
 abbrev pub times_of : List Entry → List Time
@@ -29,7 +28,9 @@ abbrev pub HasSlot : Reply → Type 0
 HasSlot (Joined key) = key.slot ≡ key.place
 HasSlot _ = ⊤
 
+-- The program is built, and its nodes are those of its file, in order; history and trace are legal together.
 pub record IsCore (c : Core) : Type 0 where
+  pub built : IsTrue (is_built c.prog)
   pub small : AreSmallFrom 0 (live c.trace)
   pub begun : IsSomeAnd (slice_get c.trace 0) (λ m. m.born ≡ live c.trace)
   pub times : map (λ m. m.time) c.trace ≡ times_of c.entries

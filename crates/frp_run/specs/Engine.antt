@@ -3,16 +3,11 @@ use Rattle.std.specs.Prelude.{◌≡◌, ℕ, List, [], ◌∷◌, Option, Some,
 use Rattle.frp_base.specs.declared.name.Name.{Name}
 use Rattle.frp_base.specs.declared.val.Val.{Val}
 use Rattle.frp_base.specs.Name.{item_of}
-use Rattle.frp_expr.specs.declared.expr.Expr.{Expr}
 use Rattle.frp_graph.specs.declared.trace.Node.{Node}
 use Rattle.frp_graph.specs.declared.trace.Fact.{Fact}
 use Rattle.frp_graph.specs.declared.prog.Prog.{Prog}
 use Rattle.frp_graph.specs.Trace.{Sight}
 use Rattle.frp_graph.specs.Equations.{Sent, row}
-
--- the program of these expressions and nodes
-abbrev pub program_of : List Expr → List Node → Prog
-program_of codes nodes = record { codes = codes; funs = []; nodes = nodes }
 
 -- the send at a place, where there is one
 abbrev pub sends_at : ℕ → Option Fact → List Sent
@@ -39,8 +34,8 @@ facts_of (x ∷ xs) (Some v ∷ os) = record { node = x.name; value = v } ∷ fa
 facts_of (x ∷ xs) (None ∷ os) = facts_of xs os
 facts_of _ _ = []
 
--- these are the facts of the moment
-pub record AreFacts (prog : Prog) (place : ℕ) (sent : Option Fact) (facts : List Fact) : Type 0 where
+-- these are the facts of these nodes at the moment
+pub record AreFacts (prog : Prog) (nodes : List Node) (place : ℕ) (sent : Option Fact) (facts : List Fact) : Type 0 where
   pub occs : List (Option Val)
-  pub settled : AreSettled prog place sent occs prog.nodes occs
-  pub fired : facts ≡ facts_of prog.nodes occs
+  pub settled : AreSettled prog place sent occs nodes occs
+  pub fired : facts ≡ facts_of nodes occs

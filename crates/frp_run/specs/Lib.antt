@@ -1,6 +1,7 @@
 pub mod File
 pub mod Reading
 pub mod Small
+pub mod Nodes
 pub mod Programs
 pub mod Engine
 pub mod Core

@@ -1,22 +1,61 @@
--- Programs of the small grammar: node k is that of item k, and is a sink, or a map, a filter or a hold of an earlier node.
-use Rattle.std.specs.Prelude.{◌≡◌, ℕ, ◌+◌, ◌<◌, List, [], ◌∷◌, None, IsSome, ⊤}
+-- The programs that are run so far: each line makes a node of a shape that is built. What they make: node k is that of item
+-- k, and reads earlier nodes only.
+use Rattle.std.specs.Prelude.{◌≡◌, ℕ, ◌+◌, ◌<◌, Bool, true, false, List, [], ◌∷◌, Option, Some, IsTrue, length, slice_get, ⊤}
+use Rattle.std.specs.List.{list_all}
 use Rattle.frp_base.specs.declared.name.Name.{Name}
 use Rattle.frp_base.specs.Name.{declared_name}
-use Rattle.frp_graph.specs.declared.trace.Node.{Node}
+use Rattle.frp_graph.specs.declared.prog.Prog.{Prog}
+use Rattle.frp_graph.specs.declared.prog.Line3.{Line3}
+use Rattle.frp_graph.specs.declared.prog.Line3.TheVariants as line
+use Rattle.frp_graph.specs.declared.prog.LineShape.{LineShape}
+use Rattle.frp_graph.specs.declared.prog.LineShape.TheVariants as l
 use Rattle.frp_graph.specs.declared.shape.Shape.{Shape}
-use Rattle.frp_graph.specs.declared.shape.Shape.TheVariants.{Sink, Map, Filter, Hold}
+use Rattle.frp_graph.specs.declared.shape.Shape.TheVariants.{Sink, Never, Map, Filter, Hold}
+use Rattle.frp_graph.specs.declared.trace.Node.{Node}
 
+-- whether a line makes a node of a shape that is built
+abbrev pub is_built_shape : LineShape → Bool
+is_built_shape l.Sink = true
+is_built_shape l.Never = true
+is_built_shape (l.Map f s) = true
+is_built_shape (l.Filter f s) = true
+is_built_shape (l.Hold o s) = true
+is_built_shape _ = false
+
+abbrev pub is_built_line : Line3 → Bool
+is_built_line (line.Node ty shape) = is_built_shape shape
+is_built_line (line.Get c) = false
+
+-- whether each line of a program does
+abbrev pub is_built : Prog → Bool
+is_built prog = list_all is_built_line prog.body.lines
+
+-- a line of the program makes the node of this name
+abbrev pub HasNode : Prog → Name → Type 0
+HasNode prog n = (k : ℕ) × ((k < length prog.body.lines) × (n ≡ declared_name k))
+
+-- a line of the program makes the sink of this name
+abbrev pub makes_sink : Option Line3 → Bool
+makes_sink (Some (line.Node ty l.Sink)) = true
+makes_sink _ = false
+
+abbrev pub HasSink : Prog → Name → Type 0
+HasSink prog n = (k : ℕ) × (IsTrue (makes_sink (slice_get prog.body.lines k)) × (n ≡ declared_name k))
+
+-- the name is that of an item before item k
 abbrev pub IsEarlier : ℕ → Name → Type 0
 IsEarlier k n = (j : ℕ) × ((j < k) × (n ≡ declared_name j))
 
-abbrev pub IsSmall : ℕ → Node → Shape → Type 0
-IsSmall k x Sink = x.first ≡ None
-IsSmall k x (Map f s) = (IsEarlier k s) × (x.first ≡ None)
-IsSmall k x (Filter f s) = (IsEarlier k s) × (x.first ≡ None)
-IsSmall k x (Hold s) = (IsEarlier k s) × (IsSome x.first)
-IsSmall k x _ = ⊥
+-- the node of item k with this shape reads earlier nodes
+abbrev pub IsSmall : ℕ → Shape → Type 0
+IsSmall k Sink = ⊤
+IsSmall k Never = ⊤
+IsSmall k (Map f s) = IsEarlier k s
+IsSmall k (Filter f s) = IsEarlier k s
+IsSmall k (Hold s) = IsEarlier k s
+IsSmall k _ = ⊥
 
 -- nodes of which the first is that of item k
 abbrev pub AreSmallFrom : ℕ → List Node → Type 0
 AreSmallFrom k [] = ⊤
-AreSmallFrom k (x ∷ xs) = (x.name ≡ declared_name k) × (IsSmall k x x.shape) × (AreSmallFrom (k + 1) xs)
+AreSmallFrom k (x ∷ xs) = (x.name ≡ declared_name k) × (IsSmall k x.shape) × (AreSmallFrom (k + 1) xs)

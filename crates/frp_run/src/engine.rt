@@ -1,49 +1,48 @@
 //! The plain engine: at each moment it takes all nodes in the order of the items.
 
-ghost use Rattle.std.specs.Prelude.{◌≡◌, ◌<◌, [], ◌∷◌, IfOk, List, Some, length};
+ghost use Rattle.std.specs.Prelude.{◌≡◌, [], ◌∷◌, IfOk, Some, length};
 ghost use Rattle.std.specs.Option.{option_copied};
-ghost use Rattle.frp_graph.specs.declared.trace.Node.{Node};
 ghost use Rattle.frp_graph.specs.Applied.{code_on};
 ghost use Rattle.frp_base.specs.declared.val.Val.{out-Val};
 ghost use Rattle.frp_graph.specs.Equations.{row, sent_in, keep_if};
 ghost use Rattle.frp_expr.specs.Parts.{bool_in};
 ghost use Rattle.frp_run.specs.Small.{AreSmallFrom, IsSmall};
-ghost use Rattle.frp_run.specs.Engine.{occ_at, sends_at, sees, AreSettled, facts_of, AreFacts, program_of};
+ghost use Rattle.frp_run.specs.Engine.{occ_at, sends_at, sees, AreSettled, facts_of, AreFacts};
 
 use frp_base::{Memory, Name, Seq, Val};
 use frp_expr::eval;
-use frp_graph::{Expr, Fact, Lam, Node, Shape};
+use frp_graph::{Expr, Fact, Lam, Node, Prog, Shape};
 use std::alloc::Global;
 
 /// The facts of the moment at the time of `place`, where this is sent.
 pub fn settle(
     alloc: Global,
-    codes: &[Expr],
+    prog: &Prog,
     nodes: &[Node],
     place: u64,
     sent: Option<&Fact>,
 ) -> Result<Seq<Fact>, Memory>
     requires { AreSmallFrom 0 nodes.now }
-    ensures { IfOk result (λ fs. AreFacts (program_of codes.now nodes.now) place (option_copied sent.entry) fs) }
+    ensures { IfOk result (λ fs. AreFacts prog.now nodes.now place (option_copied sent.entry) fs) }
 {
-    let occs = occurrences(alloc, codes, nodes, place, sent)?;
+    let occs = occurrences(alloc, prog, nodes, place, sent)?;
     facts(alloc, nodes, occs.as_slice())
 }
 
 /// Each node's occurrence or none, in the order of the nodes.
 fn occurrences(
     alloc: Global,
-    codes: &[Expr],
+    prog: &Prog,
     nodes: &[Node],
     place: u64,
     sent: Option<&Fact>,
 ) -> Result<Seq<Option<Val>>, Memory>
     requires { AreSmallFrom 0 nodes.now }
-    ensures { IfOk result (λ os. AreSettled (program_of codes.now nodes.now) place (option_copied sent.entry) os nodes.now os) }
+    ensures { IfOk result (λ os. AreSettled prog.now place (option_copied sent.entry) os nodes.now os) }
 {
     let mut occs = Seq::new(alloc);
     for node in nodes {
-        let occ = occurrence(alloc, codes, place, sent, occs.as_slice(), node)?;
+        let occ = occurrence(alloc, prog, place, sent, occs.as_slice(), node)?;
         occs.add(occ)?;
     }
     Ok(occs)
@@ -52,23 +51,24 @@ fn occurrences(
 /// The occurrence of a node over those of the nodes before it.
 fn occurrence(
     alloc: Global,
-    codes: &[Expr],
+    prog: &Prog,
     place: u64,
     sent: Option<&Fact>,
     occs: &[Option<Val>],
     node: &Node,
 ) -> Result<Option<Val>, Memory>
-    requires { IsSmall (length occs.now) node.now node.now.shape }
-    ensures { (nodes : List Node) → IfOk result (λ o. o ≡ row (program_of codes.now nodes) (sends_at place (option_copied sent.entry)) (sees place occs.now) node.now node.now.shape) }
+    requires { IsSmall (length occs.now) node.now.shape }
+    ensures { IfOk result (λ o. o ≡ row prog.now (sends_at place (option_copied sent.entry)) (sees place occs.now) node.now node.now.shape) }
 {
     match &node.shape {
         Shape::Sink => sent_to(alloc, place, sent, &node.name),
+        Shape::Never => Ok(None),
         Shape::Map { f, s } => match occurrence_of(occs, s) {
-            Some(value) => Ok(Some(applied(alloc, codes, f, value)?)),
+            Some(value) => Ok(Some(applied(alloc, prog.codes.as_slice(), f, value)?)),
             None => Ok(None),
         },
         Shape::Filter { f, s } => match occurrence_of(occs, s) {
-            Some(value) => kept(alloc, codes, f, value),
+            Some(value) => kept(alloc, prog.codes.as_slice(), f, value),
             None => Ok(None),
         },
         Shape::Hold { s } => match occurrence_of(occs, s) {

@@ -1,15 +1,16 @@
 //! The core: a program with its history and its trace.
 
 use crate::engine::settle;
+use crate::nodes::first_nodes;
 use crate::windows::window_of;
 use frp_base::{Memory, Name, Seq, Time};
-use frp_graph::{Cmd, Entry, Expr, Fact, Key, Moment, Node, Prog, Reply};
+use frp_graph::{Cmd, Entry, Fact, Key, Moment, Node, Prog, Reply};
 use std::alloc::Global;
 
-/// The expressions of a program, the history of the commands to it, and its trace.
+/// A program, the history of the commands to it, and its trace.
 #[derive(Drop)]
 pub struct Core {
-    pub codes: Seq<Expr>,
+    pub prog: Prog,
     pub entries: Seq<Entry>,
     pub trace: Seq<Moment>,
 }
@@ -20,23 +21,20 @@ impl Core {
     ghost use Rattle.frp_graph.specs.declared.history.Reply.TheVariants as reply;
     ghost use Rattle.frp_graph.specs.Trace.{live, node_in};
     ghost use Rattle.frp_graph.specs.Legal.{is_sink, IsHeld};
-    ghost use Rattle.frp_run.specs.Small.{AreSmallFrom};
+    ghost use Rattle.frp_graph.specs.TypedProg.{IsTypedProg};
+    ghost use Rattle.frp_run.specs.Small.{is_built};
     ghost use Rattle.frp_run.specs.Core.{IsCore, Entered, HasLeft, program};
 
     /// The core of a program after its build.
     pub fn build(alloc: Global, prog: Prog) -> Result<Core, Memory>
-        requires small { AreSmallFrom 0 prog.nodes }
-        requires funs { prog.funs ≡ [] }
+        requires typed { IsTypedProg prog }
+        requires built { IsTrue (is_built prog) }
         ensures core { IfOk result (λ c. IsCore c) }
         ensures same { IfOk result (λ c. program c ≡ prog) }
         ensures empty { IfOk result (λ c. c.entries ≡ []) }
     {
-        let Prog {
-            codes,
-            funs: _,
-            nodes,
-        } = prog;
-        let fired = settle(alloc, codes.as_slice(), nodes.as_slice(), 0, None)?;
+        let nodes = first_nodes(alloc, &prog)?;
+        let fired = settle(alloc, &prog, nodes.as_slice(), 0, None)?;
         let mut trace = Seq::new(alloc);
         trace.add(Moment {
             time: Time::top(alloc, 0),
@@ -44,7 +42,7 @@ impl Core {
             fired,
         })?;
         Ok(Core {
-            codes,
+            prog,
             entries: Seq::new(alloc),
             trace,
         })
@@ -75,13 +73,7 @@ impl Core {
         ensures err { OnErr result (self.new ≡ self.old) }
     {
         let place = self.entries.as_slice().len() as u64 + 1;
-        let fired = settle(
-            alloc,
-            self.codes.as_slice(),
-            self.nodes(),
-            place,
-            Some(&fact),
-        )?;
+        let fired = settle(alloc, &self.prog, self.nodes(), place, Some(&fact))?;
         self.trace.add(Moment {
             time: Time::top(alloc, place),
             born: Seq::new(alloc),

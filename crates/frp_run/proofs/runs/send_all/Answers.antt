@@ -1,20 +1,20 @@
-use Rattle.std.proofs.Common.{◌≡◌, ◌∙◌, true}
+use Rattle.std.proofs.Common.{sym}
 use Rattle.std.proofs.Math.Path.{transport}
 use Rattle.frp_graph.specs.declared.history.Cmd.TheVariants.{Send}
 use Rattle.frp_graph.specs.declared.history.Reply.TheVariants.{Accepted}
-use Rattle.frp_graph.specs.Trace.{live, node_in}
-use Rattle.frp_graph.specs.Legal.{is_sink}
-use Rattle.frp_run.specs.Core.{Entered}
+use Rattle.frp_run.specs.Small.{HasSink}
+use Rattle.frp_run.specs.Core.{Entered, program}
 use Rattle.frp_run.specs.Runs.{sent_entry}
-use Rattle.frp_run.proofs.Sending.{all_at, same_live, sent_more}
+use Rattle.frp_run.proofs.Living.{live_sink}
+use Rattle.frp_run.proofs.Sending.{all_at, sent_more}
 use Rattle.frp_run.proofs.runs.send_all.Goals as goal
 
 pub send-requires-clause-sink : goal.send-requires-clause-sink
 send-requires-clause-sink c =
     let old = c.args.core.now in
-    let k : is_sink (node_in (live old.trace) c.fact-item.result.node) ≡ true =
-    all_at (λ f. is_sink (node_in (live old.trace) f.node) ≡ true) c.args.script.now c.loop-fact.fact-index c.fact-item.result c.requires.sends c.loop-fact-test.true c.fact-item.is in
-    (λ i. is_sink (node_in (same_live old c.loop-fact.core c.loop-fact.invariant.program_stays i) (c.in_ok-copy.ensures i))) ∙ k
+    let k : HasSink (program old) c.fact-item.result.node =
+    all_at (λ f. HasSink (program old) f.node) c.args.script.now c.loop-fact.fact-index c.fact-item.result c.requires.sends c.loop-fact-test.true c.fact-item.is in
+    live_sink c.loop-fact.core c.loop-fact.invariant.core _ (transport (λ i. HasSink ((sym c.loop-fact.invariant.program_stays) i) ((sym c.in_ok-copy.ensures) i)) k)
 
 pub loop-fact-preserved : goal.loop-fact-preserved
 loop-fact-preserved c =

@@ -1,0 +1,254 @@
+-- Typed programs: each operand, expression, kept value, node and result has the type that is asked for in its place, and uses
+-- only what is declared before it.
+use Rattle.std.specs.Prelude.{◌≡◌, ℕ, ◌+◌, nat_le, Bool, true, false, not, ◌&&◌, ◌||◌, ◌==◌, List, [], ◌∷◌, ◌++◌, map, length, Option, Some, None, IsTrue, is_some, slice_get, unwrap_or, if◌then◌else◌, max}
+use Rattle.std.specs.Option.{option_to_list}
+use Rattle.std.specs.List.{list_any}
+use Rattle.frp_base.specs.declared.ty.Ty.{Ty, out-Ty}
+use Rattle.frp_base.specs.declared.ty.Ty.TheOpen.{Ty-F}
+use Rattle.frp_base.specs.declared.ty.Ty.TheOpen as o
+use Rattle.frp_base.specs.declared.ty.Ty.TheVariants as t
+use Rattle.frp_base.specs.declared.ty.Ty.TheFolds.{fold-Ty}
+use Rattle.frp_base.specs.Ty.{ty_eq}
+use Rattle.frp_expr.specs.declared.expr.Expr.{Expr}
+use Rattle.frp_expr.specs.Types.{item_type, given}
+use Rattle.frp_expr.specs.Typing.{Sig, ◌>>=◌, has, each_has, type_in}
+use Rattle.frp_expr.specs.Uses.{uses}
+use Rattle.frp_graph.specs.declared.prog.FunDef.{FunDef}
+use Rattle.frp_graph.specs.declared.prog.Body.{Body}
+use Rattle.frp_graph.specs.declared.prog.Prog.{Prog}
+use Rattle.frp_graph.specs.declared.prog.Line3.{Line3}
+use Rattle.frp_graph.specs.declared.prog.Line3.TheVariants.{Node, Get}
+use Rattle.frp_graph.specs.declared.prog.LineLam.{LineLam}
+use Rattle.frp_graph.specs.declared.prog.LineShape.{LineShape}
+use Rattle.frp_graph.specs.declared.prog.LineShape.TheVariants.{Sink, Never, Constant, Map, Filter, Merge, Snapshot, Split, Updates, Value, Loop, Hold, Mapc, Apply, Switchs, Switchc, Execute}
+
+-- Types.
+
+-- whether a type is one of the language, whose lists have items of plain types; and whether it is plain
+abbrev pub kind_step : Ty-F (Bool × Bool) → Bool × Bool
+kind_step (o.Pair a b) = (a.0 && b.0, a.1 && b.1)
+kind_step (o.List a) = (a.1, false)
+kind_step (o.Stream a) = (a.0, false)
+kind_step (o.Cell a) = (a.0, false)
+kind_step (o.Fun a b) = (a.0 && b.0, false)
+kind_step _ = (true, true)
+
+abbrev pub is_type : Ty → Bool
+is_type x = (fold-Ty (Bool × Bool) kind_step x).0
+
+-- what a stream and a cell hold
+abbrev pub stream_in : Ty-F Ty → Option Ty
+stream_in (o.Stream a) = Some a
+stream_in _ = None
+
+abbrev pub cell_in : Ty-F Ty → Option Ty
+cell_in (o.Cell a) = Some a
+cell_in _ = None
+
+abbrev pub stream_item : Ty → Option Ty
+stream_item x = stream_in (out-Ty x)
+
+abbrev pub cell_item : Ty → Option Ty
+cell_item x = cell_in (out-Ty x)
+
+abbrev pub is_stream : Ty → Bool
+is_stream x = is_some (stream_item x)
+
+abbrev pub is_cell : Ty → Bool
+is_cell x = is_some (cell_item x)
+
+-- what a function gives for an argument of this type
+abbrev pub result_in : Ty → Ty-F Ty → Option Ty
+result_in a (o.Fun x y) = given (ty_eq x a) y
+result_in a _ = None
+
+abbrev pub result_for : Ty → Ty → Option Ty
+result_for f a = result_in a (out-Ty f)
+
+-- the types of these positions
+abbrev pub types_at : List Ty → List ℕ → Option (List Ty)
+types_at ts [] = Some []
+types_at ts (i ∷ is) = do
+  x ← slice_get ts i
+  xs ← types_at ts is
+  Some (x ∷ xs)
+
+-- Lines.
+
+-- a template: the types of its parameter, of its kept values and of what it gives, and how deep it executes others
+pub record Pattern : Type 0 where
+  pub param : Ty
+  pub kept : List Ty
+  pub gives : Ty
+  pub depth : ℕ
+
+module _ (sigs : List Sig) (codes : List Expr) (patterns : List Pattern) where
+  -- what an operand that is a stream, or a cell, holds, over values of these types
+  abbrev pub stream_of : List Ty → Expr → Option Ty
+  stream_of ts e = type_in sigs e ts >>= stream_item
+
+  abbrev pub cell_of : List Ty → Expr → Option Ty
+  cell_of ts e = type_in sigs e ts >>= cell_item
+
+  -- what an expression of the program gives for arguments of these types
+  abbrev pub lam_type : List Ty → LineLam → List Ty → Option Ty
+  lam_type ts f args = do
+    kept ← types_at ts f.kept
+    e ← slice_get codes f.code
+    type_in sigs e (kept ++ args)
+
+  -- The type of the node of a line of this shape, over values of these types; a sink, a node that never fires and a loop may
+  -- have any type that is written, which is given.
+  abbrev pub shape_type : List Ty → Ty → LineShape → Option Ty
+  shape_type ts x Sink = given (is_stream x && is_type x) x
+  shape_type ts x Never = given (is_stream x && is_type x) x
+  shape_type ts x (Constant e) = do
+    a ← type_in sigs e ts
+    Some (t.Cell a)
+  shape_type ts x (Map f s) = do
+    a ← stream_of ts s
+    b ← lam_type ts f (a ∷ [])
+    Some (t.Stream b)
+  shape_type ts x (Filter f s) = do
+    a ← stream_of ts s
+    b ← lam_type ts f (a ∷ [])
+    given (ty_eq b t.Bool) (t.Stream a)
+  shape_type ts x (Merge f r s) = do
+    a ← stream_of ts r
+    b ← stream_of ts s
+    c ← lam_type ts f (a ∷ a ∷ [])
+    given (ty_eq b a && ty_eq c a) (t.Stream a)
+  shape_type ts x (Snapshot f s c) = do
+    a ← stream_of ts s
+    b ← cell_of ts c
+    d ← lam_type ts f (a ∷ b ∷ [])
+    Some (t.Stream d)
+  shape_type ts x (Split s) = do
+    a ← stream_of ts s
+    b ← item_type a
+    Some (t.Stream b)
+  shape_type ts x (Updates c) = do
+    a ← cell_of ts c
+    Some (t.Stream a)
+  shape_type ts x (Value c) = do
+    a ← cell_of ts c
+    Some (t.Stream a)
+  shape_type ts x (Loop to) = given ((is_stream x || is_cell x) && is_type x) x
+  shape_type ts x (Hold e s) = do
+    a ← type_in sigs e ts
+    b ← stream_of ts s
+    given (ty_eq b a) (t.Cell a)
+  shape_type ts x (Mapc f c) = do
+    a ← cell_of ts c
+    b ← lam_type ts f (a ∷ [])
+    Some (t.Cell b)
+  shape_type ts x (Apply cf ca) = do
+    f ← cell_of ts cf
+    a ← cell_of ts ca
+    b ← result_for f a
+    Some (t.Cell b)
+  shape_type ts x (Switchs c) = do
+    a ← cell_of ts c
+    b ← stream_item a
+    Some (t.Stream b)
+  shape_type ts x (Switchc c) = do
+    a ← cell_of ts c
+    b ← cell_item a
+    Some (t.Cell b)
+  shape_type ts x (Execute s k kept) = do
+    a ← stream_of ts s
+    d ← slice_get patterns k
+    given (ty_eq a d.param && each_has d.kept (map (type_in sigs) kept) ts) (t.Stream d.gives)
+
+  -- whether what a loop is tied to, among values of all these types, has its type
+  abbrev pub is_tied : List Ty → Ty → LineShape → Bool
+  is_tied all x (Loop to) = has x (slice_get all to)
+  is_tied all x _ = true
+
+  -- the type of the value of a line, over values of these types; one that is got is Int where it has none
+  abbrev pub line_type : List Ty → Line3 → Ty
+  line_type ts (Node x shape) = x
+  line_type ts (Get c) = unwrap_or (cell_of ts c) t.Int
+
+  -- the types of all the values of a body
+  abbrev pub all_types : List Ty → List Line3 → List Ty
+  all_types ts [] = ts
+  all_types ts (l ∷ ls) = all_types (ts ++ line_type ts l ∷ []) ls
+
+  -- A line over values of these types, of which those at the positions `made` are the nodes that the body makes.
+  abbrev pub is_typed_line : List Ty → List Ty → List ℕ → Line3 → Bool
+  is_typed_line all ts made (Node x shape) = has x (shape_type ts x shape) && is_tied all x shape
+  is_typed_line all ts made (Get c) = is_some (cell_of ts c) && not (list_any (λ i. list_any (λ j. i == j) made) (uses (length ts) c))
+
+  -- the positions of the nodes that are made, with that of this line
+  abbrev pub with_node : List ℕ → ℕ → Line3 → List ℕ
+  with_node made i (Node x shape) = made ++ i ∷ []
+  with_node made i (Get c) = made
+
+  abbrev pub are_typed_lines : List Ty → List Ty → List ℕ → List Line3 → Bool
+  are_typed_lines all ts made [] = true
+  are_typed_lines all ts made (l ∷ ls) =
+      is_typed_line all ts made l && are_typed_lines all (ts ++ line_type ts l ∷ []) (with_node made (length ts) l) ls
+
+  -- the types of the values that a body has before its lines: its parameter and its kept values
+  abbrev pub given_types : Body → List Ty
+  given_types body = option_to_list body.param ++ body.kept
+
+  abbrev pub has_typed_lines : Body → Bool
+  has_typed_lines body = are_typed_lines (all_types (given_types body) body.lines) (given_types body) [] body.lines
+
+-- Functions.
+
+abbrev pub sig_of : FunDef → Sig
+sig_of d = record { kept = d.kept; arg = d.arg; result = d.result }
+
+-- a function's expression has the type of its result, over its kept values and its argument, with earlier functions
+abbrev pub are_typed_funs : List Sig → List FunDef → Bool
+are_typed_funs sigs [] = true
+are_typed_funs sigs (d ∷ ds) = has d.result (type_in sigs d.e (d.kept ++ d.arg ∷ [])) && are_typed_funs (sigs ++ sig_of d ∷ []) ds
+
+-- Templates.
+
+-- how deep a template is that executes these: one more than the deepest
+abbrev pub line_depth : List Pattern → Line3 → ℕ
+line_depth patterns (Node x (Execute s k kept)) = depth_in (slice_get patterns k) where
+  depth_in : Option Pattern → ℕ
+  depth_in None = 0
+  depth_in (Some d) = d.depth
+line_depth patterns _ = 0
+
+abbrev pub depth_of : List Pattern → List Line3 → ℕ
+depth_of patterns [] = 1
+depth_of patterns (l ∷ ls) = max (line_depth patterns l + 1) (depth_of patterns ls)
+
+module _ (sigs : List Sig) (codes : List Expr) where
+  abbrev pub gives_type : List Pattern → Body → Option Ty
+  gives_type patterns body = body.give >>= λ e. type_in sigs e (all_types sigs codes patterns (given_types sigs codes patterns body) body.lines)
+
+  -- the pattern of a template whose earlier ones have these; none where it has no parameter or what it gives has no type
+  abbrev pub pattern_of : List Pattern → Body → Option Pattern
+  pattern_of patterns body = do
+    a ← body.param
+    b ← gives_type patterns body
+    Some (record { param = a; kept = body.kept; gives = b; depth = depth_of patterns body.lines })
+
+  -- the most levels of templates
+  abbrev pub deepest : ℕ
+  deepest = 8
+
+  abbrev pub patterns_of : List Pattern → List Body → Option (List Pattern)
+  patterns_of patterns [] = Some patterns
+  patterns_of patterns (body ∷ more) = do
+    d ← pattern_of patterns body
+    if has_typed_lines sigs codes patterns body && nat_le d.depth deepest then patterns_of (patterns ++ d ∷ []) more else None
+
+-- The program is typed: its functions, its templates, each over those before it, and its body, which has no parameter, no
+-- kept values and gives nothing.
+pub record IsTypedProg (prog : Prog) : Type 0 where
+  pub funs : IsTrue (are_typed_funs [] prog.funs)
+  pub patterns : List Pattern
+  pub templates : patterns_of (map sig_of prog.funs) prog.codes [] prog.templates ≡ Some patterns
+  pub lines : IsTrue (has_typed_lines (map sig_of prog.funs) prog.codes patterns prog.body)
+  pub no_param : prog.body.param ≡ None
+  pub no_kept : prog.body.kept ≡ []
+  pub gives_nothing : prog.body.give ≡ None

@@ -1,0 +1,242 @@
+//! A file as it is read: a struct for each rule of the grammar, a variant for each alternative, and beside each name, type
+//! and form the place of its first byte in the input, from 0.
+
+use frp_base::Seq;
+use frp_expr::{Raw, RawTy, Spot};
+
+/// A file: its graph, its listens and its senders, in order.
+#[derive(Drop)]
+pub struct File {
+    pub graph: Graph,
+    pub listens: Seq<Listen>,
+    pub senders: Seq<Sender>,
+}
+
+/// The graph of a file: its declarations, in order.
+#[derive(Drop)]
+pub struct Graph {
+    pub at: u64,
+    pub decls: Seq<Decl>,
+}
+
+/// A declaration of the graph.
+#[derive(Drop)]
+pub enum Decl {
+    Template(Template),
+    Function(Function),
+    Item(Item),
+}
+
+/// A template: its name, its parameter, its kept names, the items of its body, and what an instance gives.
+#[derive(Drop)]
+pub struct Template {
+    pub at: u64,
+    pub name: Spot,
+    pub param: Param,
+    pub kept: Seq<Param>,
+    pub items: Seq<Item>,
+    pub give: Give,
+}
+
+/// A function: its name, its kept names, its argument, and its expression over them.
+#[derive(Drop)]
+pub struct Function {
+    pub at: u64,
+    pub name: Spot,
+    pub kept: Seq<Param>,
+    pub arg: Param,
+    pub e: Raw,
+}
+
+/// A name with its type.
+#[derive(Drop)]
+pub struct Param {
+    pub at: u64,
+    pub name: Spot,
+    pub ty: RawTy,
+}
+
+/// What an instance of a template gives.
+#[derive(Drop)]
+pub struct Give {
+    pub at: u64,
+    pub e: Raw,
+}
+
+/// An item of a body. That of the graph has no `Get`; that of a template has no `Sink` and no `Cellsink`.
+#[derive(Drop)]
+pub struct Item {
+    pub at: u64,
+    pub form: ItemForm,
+}
+
+/// What an item is: an input; an input with a cell of what was last sent to it, and of a value before; a node of a shape; a
+/// loop that is tied; or the value of a cell as the template's instance is made.
+#[derive(Drop)]
+pub enum ItemForm {
+    Sink {
+        name: Spot,
+        ty: RawTy,
+    },
+    Cellsink {
+        sink: Spot,
+        cell: Spot,
+        ty: RawTy,
+        first: Raw,
+    },
+    Let {
+        name: Spot,
+        shape: RawShape,
+    },
+    Tie {
+        from: Spot,
+        to: Spot,
+    },
+    Get {
+        name: Spot,
+        cell: Raw,
+    },
+}
+
+/// A shape as it is written.
+#[derive(Drop)]
+pub struct RawShape {
+    pub at: u64,
+    pub form: ShapeForm,
+}
+
+/// What a written shape is. `x` and `y` are variables of the expression `e`; `s`, `a` and `b` are streams, `c`, `cf` and
+/// `ca` cells, and `o` is a value. The last seven are derived forms, which stand for several items.
+#[derive(Drop)]
+pub enum ShapeForm {
+    Never {
+        ty: RawTy,
+    },
+    Constant {
+        o: Raw,
+    },
+    Map {
+        x: Spot,
+        s: Raw,
+        e: Raw,
+    },
+    Mapc {
+        x: Spot,
+        c: Raw,
+        e: Raw,
+    },
+    Filter {
+        x: Spot,
+        s: Raw,
+        e: Raw,
+    },
+    Merge {
+        x: Spot,
+        y: Spot,
+        a: Raw,
+        b: Raw,
+        e: Raw,
+    },
+    Snapshot {
+        x: Spot,
+        y: Spot,
+        s: Raw,
+        c: Raw,
+        e: Raw,
+    },
+    Split {
+        s: Raw,
+    },
+    Updates {
+        c: Raw,
+    },
+    Value {
+        c: Raw,
+    },
+    Loops {
+        ty: RawTy,
+    },
+    Loopc {
+        ty: RawTy,
+    },
+    Hold {
+        o: Raw,
+        s: Raw,
+    },
+    Apply {
+        cf: Raw,
+        ca: Raw,
+    },
+    Switchs {
+        c: Raw,
+    },
+    Switchc {
+        c: Raw,
+    },
+    Execute {
+        s: Raw,
+        template: Spot,
+        kept: Seq<Raw>,
+    },
+    Orelse {
+        a: Raw,
+        b: Raw,
+    },
+    Gate {
+        s: Raw,
+        c: Raw,
+    },
+    Once {
+        s: Raw,
+    },
+    /// `x` is the occurrence and `y` the state.
+    Accum {
+        ty: RawTy,
+        x: Spot,
+        y: Spot,
+        s: Raw,
+        o: Raw,
+        e: Raw,
+    },
+    /// `x` is the occurrence and `y` the state.
+    Collect {
+        ty: RawTy,
+        x: Spot,
+        y: Spot,
+        s: Raw,
+        o: Raw,
+        e: Raw,
+    },
+    Lift2 {
+        x: Param,
+        y: Param,
+        ca: Raw,
+        cb: Raw,
+        e: Raw,
+    },
+    Defer {
+        s: Raw,
+    },
+}
+
+/// A listen: the name of the node that a listener joins.
+#[derive(Drop)]
+pub struct Listen {
+    pub at: u64,
+    pub name: Spot,
+}
+
+/// A sender: its sends, in order.
+#[derive(Drop)]
+pub struct Sender {
+    pub at: u64,
+    pub sends: Seq<RawSend>,
+}
+
+/// A send of a value to a declared node.
+#[derive(Drop)]
+pub struct RawSend {
+    pub at: u64,
+    pub name: Spot,
+    pub value: Raw,
+}
