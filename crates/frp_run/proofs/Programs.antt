@@ -1,9 +1,9 @@
 -- The program of a lawful file: it is typed and built, what it listens to is a node, and what it sends to is a sink.
-use Rattle.std.proofs.Common.{◌≡◌, ℕ, ◌+◌, ◌<◌, ◌≤◌, Bool, true, false, ◌||◌, List, [], ◌∷◌, ◌++◌, map, length, refl, sym, ap, ◌∙◌, subst, arith, inl, inr, suc, zero, append_assoc}
+use Rattle.std.proofs.Common.{◌≡◌, ℕ, ◌<◌, Bool, true, false, ◌||◌, List, [], ◌∷◌, ◌++◌, map, length, refl, sym, ap, ◌∙◌, subst, arith, inl, inr, suc, zero, append_assoc}
 use Rattle.std.specs.Prelude.{ℤ, Option, Some, None, IsTrue, ◌&&◌, not, nat_le, slice_get, option_map}
 use Rattle.std.specs.Result.{result_ok}
 use Rattle.std.specs.List.{AllByRecursion, list_any, list_all}
-use Rattle.std.proofs.lemmas.Bool.{or_left, or_right, not-true, false_from_ne_true, false≢true, cases_Bool, leb-true}
+use Rattle.std.proofs.lemmas.Bool.{or_left, or_right, not-true, false_from_ne_true, false≢true, cases_Bool}
 use Rattle.std.proofs.lemmas.List.{map-append}
 use Rattle.std.proofs.lemmas.List.Folds.{list_any-append}
 use Rattle.std.proofs.lemmas.Option.{slice_get-map}
@@ -150,21 +150,25 @@ no_later name earlier (i ∷ is) h e d =
       | inr other ↦ no_later name (earlier ++ i ∷ []) is p.1 (list_any-append (declares name) earlier (i ∷ []) ∙ or_left _ _ e) (second (declares name i) _ d other)
     ]
 
+-- an item that does not declare a name is passed over
+passed_over : (name : List ℕ) (i : Item) (is : List Item) → declares name i ≡ false → slice_get (i ∷ is) (position_of name (i ∷ is)) ≡ slice_get is (position_of name is)
+passed_over name i is e = rw e refl
+
 -- The first item that declares a name passes a test that only such items pass, where some item does.
-first_passes : (name : List ℕ) (test : Item → Bool) → ((i : Item) → test i ≡ true → declares name i ≡ true) → (earlier items : List Item) → are_lawful earlier items ≡ true
-    → list_any test items ≡ true → (i : Item) × (slice_get items (position_of name items) ≡ Some i) × (test i ≡ true)
-first_passes name test f earlier [] h d = absurd (false≢true d)
-first_passes name test f earlier (i ∷ is) h d =
-    let p = rest_lawful earlier i is h in
+first_passes : (name : List ℕ) (p : Item → Bool) → ((i : Item) → p i ≡ true → declares name i ≡ true) → (earlier items : List Item) → are_lawful earlier items ≡ true
+    → list_any p items ≡ true → (i : Item) × (slice_get items (position_of name items) ≡ Some i) × (p i ≡ true)
+first_passes name p f earlier [] h d = absurd (false≢true d)
+first_passes name p f earlier (i ∷ is) h d =
+    let l = rest_lawful earlier i is h in
     elim (cases_Bool (declares name i)) [
-      | inl here ↦ elim (cases_Bool (test i)) [
-          | inl passes ↦ (i, rw here refl, passes)
-          | inr fails ↦ absurd (no_later name (earlier ++ i ∷ []) is p.1 (declared_by_last name earlier i here) (any_from test (declares name) f is (second (test i) _ d fails)))
-        ]
+      | inl here ↦ elim (cases_Bool (p i)) [
+        | inl passes ↦ (i, rw here refl, passes)
+        | inr fails ↦ absurd (no_later name (earlier ++ i ∷ []) is l.1 (declared_by_last name earlier i here) (any_from p (declares name) f is (second (p i) _ d fails)))
+      ]
       | inr other ↦
-          let fails : test i ≡ false = false_from_ne_true _ (λ passes. false≢true (sym other ∙ f i passes)) in
-          let r = first_passes name test f (earlier ++ i ∷ []) is p.1 (second (test i) _ d fails) in
-          (r.0, rw other r.1, r.2)
+          let fails : p i ≡ false = false_from_ne_true _ (λ passes. false≢true (sym other ∙ f i passes)) in
+          let r = first_passes name p f (earlier ++ i ∷ []) is l.1 (second (p i) _ d fails) in
+          (r.0, passed_over name i is other ∙ r.1, r.2)
     ]
 
 -- The lines.
@@ -297,7 +301,7 @@ item_type earlier (Map name v s r) is l h =
     let ts : List Ty = map node_type earlier in
     let p = lawful_map earlier name v s r h in
     let c : slice_get codes (length (codes_of earlier)) ≡ Some (resolve [] r (v ∷ [])) =
-        ap (λ cs. slice_get cs (length (codes_of earlier))) (codes_more earlier (Map name v s r ∷ is)) ∙ get_seam (codes_of earlier) (resolve [] r (v ∷ [])) (codes_of is) in
+    ap (λ cs. slice_get cs (length (codes_of earlier))) (codes_more earlier (Map name v s r ∷ is)) ∙ get_seam (codes_of earlier) (resolve [] r (v ∷ [])) (codes_of is) in
     map_type codes ts (t.Stream t.Int) (next_code earlier) (operand_named earlier s) (operand_type codes ts (position_of s earlier) (stream_at s earlier l p.operand))
     (code_type codes ts (length (codes_of earlier)) (resolve [] r (v ∷ [])) t.Int c (map_code v r p.over))
 item_type earlier (Filter name v s r) is l h =
@@ -305,7 +309,7 @@ item_type earlier (Filter name v s r) is l h =
     let ts : List Ty = map node_type earlier in
     let p = lawful_filter earlier name v s r h in
     let c : slice_get codes (length (codes_of earlier)) ≡ Some (resolve [] r (v ∷ [])) =
-        ap (λ cs. slice_get cs (length (codes_of earlier))) (codes_more earlier (Filter name v s r ∷ is)) ∙ get_seam (codes_of earlier) (resolve [] r (v ∷ [])) (codes_of is) in
+    ap (λ cs. slice_get cs (length (codes_of earlier))) (codes_more earlier (Filter name v s r ∷ is)) ∙ get_seam (codes_of earlier) (resolve [] r (v ∷ [])) (codes_of is) in
     filter_type codes ts (t.Stream t.Int) (next_code earlier) (operand_named earlier s) (operand_type codes ts (position_of s earlier) (stream_at s earlier l p.operand))
     (code_type codes ts (length (codes_of earlier)) (resolve [] r (v ∷ [])) t.Bool c (filter_code v r p.over))
 item_type earlier (Hold name z s) is l h =
@@ -336,7 +340,7 @@ lines_typed whole all made earlier (i ∷ is) w l h =
     let more : List ℕ = made ++ length ts ∷ [] in
     let before : are_lawful [] earlier ≡ true = front_lawful [] earlier (i ∷ is) (ap (are_lawful []) w ∙ l) in
     let here : shape_type [] codes [] ts (node_type i) (node_shape earlier i) ≡ Some (node_type i) =
-        subst (λ xs. shape_type [] (codes_of xs) [] ts (node_type i) (node_shape earlier i) ≡ Some (node_type i)) w (item_type earlier i is before p.0) in
+    subst (λ xs. shape_type [] (codes_of xs) [] ts (node_type i) (node_shape earlier i) ≡ Some (node_type i)) w (item_type earlier i is before p.0) in
     let rest = lines_typed whole all more (earlier ++ i ∷ []) is (append_assoc earlier (i ∷ []) is ∙ w) l p.1 in
     two_true _ _ (line_typed codes all ts made earlier i here)
     (subst (λ ts. are_typed_lines [] codes [] all ts more (lines_from (earlier ++ i ∷ []) is) ≡ true) (map-append node_type earlier (i ∷ [])) rest)
@@ -346,10 +350,6 @@ lines_typed whole all made earlier (i ∷ is) w l h =
 module _ (f : File) (h : IsTrue (is_lawful f)) where
   parts : (nat_le (length f.items) 1000 ≡ true) × (are_lawful [] f.items ≡ true) × (listen_is_lawful f.items f.listen ≡ true) × (sends_are_lawful f.items f.sends ≡ true)
   parts = four_true (nat_le (length f.items) 1000) (are_lawful [] f.items) (listen_is_lawful f.items f.listen) (sends_are_lawful f.items f.sends) h
-
-  -- it has at most 1,000 items
-  pub lawful_count : length f.items ≤ 1000
-  lawful_count = leb-true _ _ parts.0
 
   -- its expressions have no fault
   pub lawful_items : AllByRecursion IsTypedItem f.items
@@ -405,11 +405,3 @@ scripts_to_sinks items listen (Some sends) l h =
 -- what a lawful file's sender sends is for sinks of its program
 pub lawful_sends : (f : File) → IsTrue (is_lawful f) → AllByRecursion (λ facts. AllByRecursion (λ s. HasSink (prog_of f) s.node) facts) (scripts_of f)
 lawful_sends f h = let p = parts f h in scripts_to_sinks f.items f.listen f.sends p.1 p.3
-
--- there is at most one script
-few_scripts : (items : List Item) (listen : Option (List ℕ)) (sends : Option (List Sending)) → length (scripts_of (record { items = items; listen = listen; sends = sends })) ≤ 1
-few_scripts items listen None = omega arith
-few_scripts items listen (Some sends) = omega arith
-
-pub one_script : (f : File) → length (scripts_of f) ≤ 1
-one_script f = few_scripts f.items f.listen f.sends
