@@ -15,14 +15,14 @@ use Rattle.frp_run.proofs.FileWords.{both_true, text_is, name_in_word, some_is}
 use Rattle.frp_run.proofs.FileSpelled.{file_spelled}
 use Rattle.frp_run.proofs.FileAgain.{IsPlain, IsPlainSend, IsPlainListen, ArePlainSends, file_again}
 
-four_true : (a b c d : Bool) → (a && b && c && d) ≡ true → (a ≡ true) × (b ≡ true) × (c ≡ true) × (d ≡ true)
+pub four_true : (a b c d : Bool) → (a && b && c && d) ≡ true → (a ≡ true) × (b ≡ true) × (c ≡ true) × (d ≡ true)
 four_true true true true true h = (refl, refl, refl, refl)
 four_true true true true false h = absurd cc
 four_true true true false d h = absurd cc
 four_true true false c d h = absurd cc
 four_true false b c d h = absurd cc
 
-six_true : (a b c d e f : Bool) → (a && b && c && d && e && f) ≡ true → (a ≡ true) × (b ≡ true) × (c ≡ true) × (d ≡ true) × (e ≡ true) × (f ≡ true)
+pub six_true : (a b c d e f : Bool) → (a && b && c && d && e && f) ≡ true → (a ≡ true) × (b ≡ true) × (c ≡ true) × (d ≡ true) × (e ≡ true) × (f ≡ true)
 six_true true true true true true true h = (refl, refl, refl, refl, refl, refl)
 six_true true true true true true false h = absurd cc
 six_true true true true true false f h = absurd cc

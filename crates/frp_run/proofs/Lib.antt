@@ -13,6 +13,8 @@ pub mod Sending
 pub mod FileAgain
 pub mod FileForms
 pub mod FileLawful
+pub mod FileTyped
+pub mod Programs
 pub mod FileLists
 pub mod FileSpelled
 pub mod FileWords

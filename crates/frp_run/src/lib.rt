@@ -8,12 +8,12 @@ mod machine;
 mod nodes;
 mod outside;
 mod plain;
+mod program;
 mod reader;
 mod report;
 mod runs;
 #[cfg(test)]
 mod tests;
-mod typed;
 mod windows;
 
 pub use plain::frp_plain;

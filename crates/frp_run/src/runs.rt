@@ -12,7 +12,7 @@ ghost use Rattle.frp_run.specs.Runs.{first_script, HaveJoined, HasSent, HaveLeft
 
 use crate::file::File;
 use crate::machine::Core;
-use crate::typed::{Typed, program_of};
+use crate::program::{Typed, program_of};
 use frp_base::{Memory, Name, Seq};
 use frp_graph::{Fact, Key, Prog};
 use std::alloc::Global;
