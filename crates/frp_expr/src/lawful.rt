@@ -19,7 +19,7 @@ pub fn is_lawful(raw: &Raw) -> bool
 {
     match &raw.form {
         RawForm::Int(n) => fits(*n),
-        RawForm::Text(text) => is_literal(text),
+        RawForm::Text(text) => is_text(text),
         RawForm::Bool(_) | RawForm::Name(_) | RawForm::Nil(_) => true,
         RawForm::Neg(a)
         | RawForm::Not(a)
@@ -73,8 +73,8 @@ fn fits(n: i64) -> bool
     true
 }
 
-/// Whether a literal text is printable and has at most 1,024 bytes.
-fn is_literal(text: &Text) -> bool
+/// Whether a text is printable and has at most 1,024 bytes, as each text value has.
+pub fn is_text(text: &Text) -> bool
     ensures { result ≡ is_text text.now }
 {
     let text = text.as_str();

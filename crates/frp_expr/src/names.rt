@@ -6,7 +6,7 @@ ghost use Rattle.frp_expr.specs.Scope.{place_of, number_of, names_of, types_of, 
 use frp_base::{Seq, Text, Ty};
 
 /// The position of the last entry of this name.
-fn place_of(names: &[(Text, Ty)], name: &Text) -> Option<usize>
+pub fn place_of(names: &[(Text, Ty)], name: &Text) -> Option<usize>
     ensures place { result ≡ place_of name.now (names_of names.now) }
     ensures within { IfSome result (λ i. i < length names.now) }
 {

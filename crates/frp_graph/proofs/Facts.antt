@@ -25,7 +25,7 @@ not_among n v (f ∷ fs) h p = elim p [
   | inr r ↦ not_among n v fs h.1 r
 ]
 
-one_fact : (n : Name) (v w : Val) (fs : List Fact) → IsStrictlySortedBy name_cmp (map (λ f. f.node) fs) → IsFact fs n v → IsFact fs n w → v ≡ w
+pub one_fact : (n : Name) (v w : Val) (fs : List Fact) → IsStrictlySortedBy name_cmp (map (λ f. f.node) fs) → IsFact fs n v → IsFact fs n w → v ≡ w
 unfolding IsStrictlySortedBy
 one_fact n v w [] h p q = absurd p
 one_fact n v w (f ∷ fs) h p q = elim p [

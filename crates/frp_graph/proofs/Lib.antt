@@ -1,4 +1,14 @@
 pub mod Order
+pub mod Lists
+pub mod Times
 pub mod Each
 pub mod Facts
 pub mod ValueLaws
+pub mod Chains
+pub mod Values
+pub mod Transactions
+pub mod InOrder
+pub mod Turns
+pub mod Before
+pub mod Legals
+pub mod FileBirths

@@ -1,5 +1,7 @@
--- What an expression of the program, and a function value, give when they are applied to arguments.
-use Rattle.std.specs.Prelude.{pos, List, [], ◌∷◌, ◌++◌, Option, Some, None, option_map, slice_get, slice_index_or}
+-- What an expression of the program, and a function value, give when they are applied to arguments, and the node that a
+-- reference names.
+use Rattle.std.specs.Prelude.{pos, List, [], ◌∷◌, ◌++◌, Option, None, option_map, slice_get, slice_index_or}
+use Rattle.frp_base.specs.declared.name.Name.{Name}
 use Rattle.frp_base.specs.declared.val.Val.{Val, out-Val}
 use Rattle.frp_base.specs.declared.val.Val.TheOpen.{Val-F}
 use Rattle.frp_base.specs.declared.val.Val.TheOpen as o
@@ -24,3 +26,12 @@ fun_on funs _ a = None
 
 abbrev pub applied : Prog → Val → Val → Option Val
 applied prog f a = fun_on prog.funs (out-Val f) a
+
+-- the node that a value refers to (no node has the empty name)
+abbrev pub name_in : Val-F Val → Name
+name_in (o.Stream n) = n
+name_in (o.Cell n) = n
+name_in _ = []
+
+abbrev pub target : Val → Name
+target x = name_in (out-Val x)

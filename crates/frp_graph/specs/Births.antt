@@ -1,17 +1,17 @@
--- The nodes that the lines of a body make, and their references.
-use Rattle.std.specs.Prelude.{ℕ, ◌+◌, List, [], ◌∷◌, ◌++◌, map, length, take, Option, Some, None, option_and_then, slice_index_or, if◌then◌else◌}
-use Rattle.frp_base.specs.declared.time.Time.{Time}
+-- The nodes that the lines of a body make, with their references: those of the file, and those of an instance of a template.
+use Rattle.std.specs.Prelude.{ℕ, ◌+◌, List, [], ◌∷◌, ◌++◌, map, length, take, Option, Some, None, option_and_then, slice_get, slice_index_or, if◌then◌else◌}
 use Rattle.frp_base.specs.declared.name.Name.{Name}
 use Rattle.frp_base.specs.declared.ty.Ty.{Ty, out-Ty}
 use Rattle.frp_base.specs.declared.ty.Ty.TheOpen.{Ty-F}
 use Rattle.frp_base.specs.declared.ty.Ty.TheOpen as t
 use Rattle.frp_base.specs.declared.val.Val.{Val}
 use Rattle.frp_base.specs.declared.val.Val.TheVariants as v
-use Rattle.frp_base.specs.Name.{declared_name}
-use Rattle.frp_base.specs.Time.{time_eq}
+use Rattle.frp_base.specs.Name.{name_eq, declared_name, made_name}
 use Rattle.frp_expr.specs.declared.expr.Expr.{Expr}
 use Rattle.frp_expr.specs.Eval.{eval}
 use Rattle.frp_expr.specs.Parts.{zero_val}
+use Rattle.frp_expr.specs.Typing.{◌>>=◌}
+use Rattle.frp_graph.specs.declared.trace.Node as trace
 use Rattle.frp_graph.specs.declared.prog.Prog.{Prog}
 use Rattle.frp_graph.specs.declared.prog.Line3.{Line3}
 use Rattle.frp_graph.specs.declared.prog.Line3.TheVariants.{Node, Get}
@@ -21,7 +21,8 @@ use Rattle.frp_graph.specs.declared.prog.LineShape.TheVariants as l
 use Rattle.frp_graph.specs.declared.shape.Lam.{Lam}
 use Rattle.frp_graph.specs.declared.shape.Shape.{Shape}
 use Rattle.frp_graph.specs.declared.shape.Shape.TheVariants as s
-use Rattle.frp_graph.specs.Equations.{target}
+use Rattle.frp_graph.specs.Trace.{Sight}
+use Rattle.frp_graph.specs.Applied.{target}
 
 -- the reference to a node of this type
 abbrev pub reference_in : Ty-F Ty → Name → Val
@@ -90,7 +91,45 @@ module _ (name : ℕ → Name) (pre : Name → Option Val) where
 
 -- the nodes of the file
 abbrev pub file_made : Prog → List Made
-file_made prog = made_by (values_from declared_name (λ n. None) 0 [] prog.body.lines) where
-  made_by : Option (List Val) → List Made
-  made_by None = []
-  made_by (Some all) = made_from declared_name (λ n. None) all 0 0 prog.body.lines
+file_made prog = over (values_from declared_name (λ n. None) 0 [] prog.body.lines) where
+  over : Option (List Val) → List Made
+  over None = []
+  over (Some all) = made_from declared_name (λ n. None) all 0 0 prog.body.lines
+
+-- how many nodes these lines make
+abbrev pub size_of : List Line3 → ℕ
+size_of [] = 0
+size_of (Node x shape ∷ ls) = size_of ls + 1
+size_of (Get c ∷ ls) = size_of ls
+
+-- An instance of a template: its nodes, and what it gives.
+pub record Instance : Type 0 where
+  pub nodes : List Made
+  pub result : Val
+
+-- The instance of a template that the node of name n makes, seen so, of the value a with these kept values; none where a
+-- cell that is got has no value.
+abbrev pub instance : Prog → Sight → Name → ℕ → List Val → Val → Option Instance
+instance prog w n template kept a = do
+  body ← slice_get prog.templates template
+  all ← values_from (made_name n w.time) w.pre 0 (a ∷ kept) body.lines
+  e ← body.give
+  Some (record { nodes = made_from (made_name n w.time) w.pre all 0 (length kept + 1) body.lines; result = eval e all })
+
+-- the instance that a node of this name and shape makes, seen so: an execute makes one where its source fires
+abbrev pub instance_in : Prog → Sight → Name → Shape → Option Instance
+instance_in prog w n (s.Execute a template kept) = option_and_then (instance prog w n template kept) (w.occ a)
+instance_in prog w n _ = None
+
+abbrev pub nodes_of : Option Instance → List Made
+nodes_of None = []
+nodes_of (Some i) = i.nodes
+
+-- the nodes that a node makes
+abbrev pub made_by : Prog → Sight → trace.Node → List Made
+made_by prog w x = nodes_of (instance_in prog w x.name x.shape)
+
+-- the node of this name among those that are made
+abbrev pub made_in : List Made → Name → Option Made
+made_in [] n = None
+made_in (d ∷ ds) n = if name_eq d.name n then Some d else made_in ds n

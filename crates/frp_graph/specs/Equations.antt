@@ -1,11 +1,9 @@
 -- The equations: the occurrence that each node has at a time, by its shape.
-use Rattle.std.specs.Prelude.{◌≡◌, ℕ, Bool, false, ◌||◌, ◌&&◌, List, [], ◌∷◌, Option, Some, None, is_some, option_map, option_and_then, slice_get, if◌then◌else◌}
+use Rattle.std.specs.Prelude.{◌≡◌, ℕ, Bool, ◌||◌, ◌&&◌, List, [], ◌∷◌, Option, Some, None, is_some, option_map, option_and_then, slice_get, if◌then◌else◌}
 use Rattle.std.specs.Ordering.{is_gt}
 use Rattle.frp_base.specs.declared.time.Time.{Time}
 use Rattle.frp_base.specs.declared.name.Name.{Name}
 use Rattle.frp_base.specs.declared.val.Val.{Val, out-Val}
-use Rattle.frp_base.specs.declared.val.Val.TheOpen.{Val-F}
-use Rattle.frp_base.specs.declared.val.Val.TheOpen as o
 use Rattle.frp_base.specs.Time.{time_eq, time_cmp, parent_and_number}
 use Rattle.frp_base.specs.Name.{name_eq, birth}
 use Rattle.frp_expr.specs.Parts.{bool_in, items_in}
@@ -14,7 +12,8 @@ use Rattle.frp_graph.specs.declared.prog.Prog.{Prog}
 use Rattle.frp_graph.specs.declared.shape.Shape.{Shape}
 use Rattle.frp_graph.specs.declared.shape.Shape.TheVariants.{Sink, Never, Constant, Map, Filter, Merge, Snapshot, Split, Updates, Value, Loop, Hold, Mapc, Apply, Switchs, Switchc, Execute}
 use Rattle.frp_graph.specs.Trace.{Sight, post_in}
-use Rattle.frp_graph.specs.Applied.{call, applied}
+use Rattle.frp_graph.specs.Applied.{call, applied, target}
+use Rattle.frp_graph.specs.Births.{instance}
 
 -- what was sent: the place of the send in the history, the sink, and the value
 pub record Sent : Type 0 where
@@ -26,15 +25,6 @@ pub record Sent : Type 0 where
 abbrev pub sent_in : List Sent → Time → Name → Option Val
 sent_in [] t n = None
 sent_in (s ∷ ss) t n = if time_eq t (s.place ∷ []) && name_eq s.sink n then Some s.value else sent_in ss t n
-
--- the node that a value refers to (no node has the empty name)
-abbrev pub name_in : Val-F Val → Name
-name_in (o.Stream n) = n
-name_in (o.Cell n) = n
-name_in _ = []
-
-abbrev pub target : Val → Name
-target x = name_in (out-Val x)
 
 -- the value where the test holds, else none
 abbrev pub keep_if : Bool → Option Val → Option Val
@@ -56,9 +46,9 @@ abbrev pub split_item : Sight → Name → Time → Option (Time × ℕ) → Opt
 split_item w s b None = None
 split_item w s b (Some p) = if is_gt (time_cmp b p.0) then None else option_and_then (λ v. slice_get (items_in (out-Val v)) p.1) (w.above s)
 
--- Here an instance of a template gives its result: no program has templates yet, so none gives anything.
+-- what the instance gives that a node makes of a value: none where there is no such instance
 abbrev pub instance_result : Prog → Sight → Node → ℕ → List Val → Val → Option Val
-instance_result prog w x template kept a = None
+instance_result prog w x template kept a = option_map (λ i. i.result) (instance prog w x.name template kept a)
 
 -- the occurrence at a time of a node of this shape
 abbrev pub row : Prog → List Sent → Sight → Node → Shape → Option Val

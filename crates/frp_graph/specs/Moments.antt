@@ -1,6 +1,6 @@
 -- Which times have a moment, and when a trace meets the equations.
-use Rattle.std.specs.Prelude.{◌≡◌, ℕ, Bool, false, not, ◌||◌, nat_lt, List, [], ◌∷◌, ◌++◌, Option, Some, None, is_some, IsTrue, map, length, filter, if◌then◌else◌, ⊤}
-use Rattle.std.specs.List.{AllByRecursion, list_any}
+use Rattle.std.specs.Prelude.{◌≡◌, ℕ, Bool, false, not, ◌||◌, ◌==◌, nat_lt, List, [], ◌∷◌, ◌++◌, Option, Some, None, is_some, IsTrue, map, length, filter, if◌then◌else◌, ⊤}
+use Rattle.std.specs.List.{AllByRecursion, list_any, flat_map}
 use Rattle.std.specs.List.Sorted.{IsStrictlySortedBy}
 use Rattle.std.specs.Ordering.{is_gt}
 use Rattle.frp_base.specs.declared.time.Time.{Time}
@@ -13,10 +13,10 @@ use Rattle.frp_graph.specs.declared.trace.Moment.{Moment}
 use Rattle.frp_graph.specs.declared.prog.Prog.{Prog}
 use Rattle.frp_graph.specs.declared.shape.Shape.{Shape}
 use Rattle.frp_graph.specs.declared.shape.Shape.TheVariants.{Split}
-use Rattle.frp_graph.specs.Trace.{live, moment_at, occ, node_in, sight_of}
+use Rattle.frp_graph.specs.Trace.{Sight, live, moment_at, occ, node_in, sight_of}
 use Rattle.frp_graph.specs.Equations.{Sent, MeetsEquation}
-use Rattle.frp_graph.specs.Births.{Made, file_made}
-use Rattle.frp_graph.specs.FirstValues.{AreBorn}
+use Rattle.frp_graph.specs.Births.{Made, file_made, made_by}
+use Rattle.frp_graph.specs.FirstValues.{AreExactly}
 
 -- the time of the build
 abbrev pub build : Time
@@ -47,13 +47,23 @@ is_child_due trace (Some p) = splits_at trace p.0 p.1 (moment_at trace p.0)
 abbrev pub is_due : List Sent → List Moment → Time → Bool
 is_due sends trace t = time_eq build t || list_any (λ s. time_eq (s.place ∷ []) t) sends || is_child_due trace (parent_and_number t)
 
--- the nodes that a program makes at a time: at the build, those of its file
-abbrev pub made_at : Prog → Time → List Made
-made_at prog t = if time_eq t build then file_made prog else []
+-- the transaction of a time is its first number: whether a time is of transaction k
+abbrev pub is_of : ℕ → Time → Bool
+is_of k [] = false
+is_of k (n ∷ ns) = n == k
+
+-- how many moments transaction k has
+abbrev pub moments_of : ℕ → List Moment → ℕ
+moments_of k trace = length (filter (λ m. is_of k m.time) trace)
+
+-- The nodes that a program makes at a time, seen so, where these are live: at the build those of its file, and those of the
+-- instances that live nodes make.
+abbrev pub made_at : Prog → List Node → Sight → List Made
+made_at prog nodes w = (if time_eq w.time build then file_made prog else []) ++ flat_map (made_by prog w) nodes
 
 -- Moment m, after the moments before it, is one that the program has where these are the sends.
 pub record IsMoment (prog : Prog) (sends : List Sent) (past : List Moment) (m : Moment) : Type 0 where
-  pub born : AreBorn prog (live (past ++ m ∷ [])) (sight_of past m) (made_at prog m.time) m.born
+  pub born : AreExactly prog (live (past ++ m ∷ [])) (sight_of past m) (made_at prog (live (past ++ m ∷ [])) (sight_of past m)) m.born
   pub equations : AllByRecursion (MeetsEquation prog sends (sight_of past m)) (live (past ++ m ∷ []))
   pub facts_of_live : AllByRecursion (λ f. IsTrue (is_some (node_in (live (past ++ m ∷ [])) f.node))) m.fired
   pub born_rise : IsStrictlySortedBy name_cmp (map (λ x. x.name) m.born)

@@ -1,11 +1,12 @@
 -- Which values are of a type among the live nodes of a program.
-use Rattle.std.specs.Prelude.{Bool, List, Option, map, option_map}
+use Rattle.std.specs.Prelude.{Bool, true, false, List, Option, Some, None, map, option_map}
 use Rattle.frp_base.specs.declared.name.Name.{Name}
-use Rattle.frp_base.specs.declared.ty.Ty.{Ty}
+use Rattle.frp_base.specs.declared.ty.Ty.{Ty, out-Ty}
+use Rattle.frp_base.specs.declared.ty.Ty.TheOpen.{Ty-F}
+use Rattle.frp_base.specs.declared.ty.Ty.TheOpen as t
 use Rattle.frp_base.specs.declared.val.Val.{Val}
 use Rattle.frp_expr.specs.Typing.{Sig}
 use Rattle.frp_expr.specs.Values.{is_of, are_of}
-use Rattle.frp_graph.specs.declared.prog.FunDef.{FunDef}
 use Rattle.frp_graph.specs.declared.prog.Prog.{Prog}
 use Rattle.frp_graph.specs.declared.trace.Node.{Node}
 use Rattle.frp_graph.specs.Trace.{node_in}
@@ -24,3 +25,21 @@ is_value prog nodes = is_of (type_among nodes) (sigs prog)
 
 abbrev pub are_values : Prog → List Node → List Val → List Ty → Bool
 are_values prog nodes = are_of (type_among nodes) (sigs prog)
+
+-- what a node of this type holds: what a stream or a cell has
+abbrev pub held_in : Ty-F Ty → Option Ty
+held_in (t.Stream a) = Some a
+held_in (t.Cell a) = Some a
+held_in _ = None
+
+abbrev pub is_cell_type : Ty-F Ty → Bool
+is_cell_type (t.Cell a) = true
+is_cell_type _ = false
+
+-- whether a value is one that a node of this type holds
+abbrev pub is_of_held : Prog → List Node → Val → Option Ty → Bool
+is_of_held prog nodes v None = false
+is_of_held prog nodes v (Some a) = is_value prog nodes v a
+
+abbrev pub fits_node : Prog → List Node → Ty → Val → Bool
+fits_node prog nodes x v = is_of_held prog nodes v (held_in (out-Ty x))

@@ -1,21 +1,16 @@
 -- What a listener is given: its window.
-use Rattle.std.specs.Prelude.{ℕ, Bool, true, false, ◌&&◌, List, [], ◌∷◌, ◌++◌, Option, Some, None, if◌then◌else◌}
+use Rattle.std.specs.Prelude.{ℕ, Bool, false, ◌&&◌, List, [], ◌∷◌, ◌++◌, Option, Some, None, if◌then◌else◌}
 use Rattle.std.specs.Ordering.{is_lt}
 use Rattle.frp_base.specs.declared.time.Time.{Time}
 use Rattle.frp_base.specs.declared.name.Name.{Name}
 use Rattle.frp_base.specs.declared.val.Val.{Val}
-use Rattle.frp_base.specs.declared.ty.Ty.{Ty, out-Ty}
-use Rattle.frp_base.specs.declared.ty.Ty.TheOpen.{Ty-F}
-use Rattle.frp_base.specs.declared.ty.Ty.TheOpen as t
+use Rattle.frp_base.specs.declared.ty.Ty.{out-Ty}
 use Rattle.frp_base.specs.Time.{time_cmp}
 use Rattle.frp_graph.specs.declared.trace.Node.{Node}
 use Rattle.frp_graph.specs.declared.trace.Moment.{Moment}
 use Rattle.frp_graph.specs.declared.history.Delivered.{Delivered}
+use Rattle.frp_graph.specs.Values.{is_cell_type}
 use Rattle.frp_graph.specs.Trace.{live, node_in, occ, moments_before, value_after}
-
-abbrev pub is_cell_type : Ty-F Ty → Bool
-is_cell_type (t.Cell a) = true
-is_cell_type _ = false
 
 -- whether the node is a cell
 abbrev pub is_cell : Option Node → Bool

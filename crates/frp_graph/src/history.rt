@@ -1,3 +1,4 @@
+use crate::evidence::Evidence;
 use frp_base::{Name, Seq, Time, Val};
 
 /// The key of a listener: the place of its join in the history, from 1, and its slot among the listeners.
@@ -14,20 +15,45 @@ pub struct Delivered {
     pub value: Val,
 }
 
-/// A command of a caller: a value for a sink, a listener that joins a node, a listener that leaves.
+/// A command of a caller: a value for a sink; a listener that joins a node; the next items of a listener, at most `max`; a
+/// listener that leaves.
 #[derive(Drop)]
 pub enum Cmd {
     Send { sink: Name, value: Val },
     Join { node: Name },
+    Take { key: Key, max: u64 },
     Leave { key: Key },
 }
 
-/// The reply to a command: the number of moments of an accepted send, the key of a listener that joined, all that a
-/// listener that left was still to be given.
+/// Why a command is refused. The numbers 1 to 8 are those of the variants, in order.
+#[derive(Drop)]
+pub enum No {
+    /// There is no live sink of the name.
+    UnknownSink,
+    /// The value is not of the sink's type among the live nodes.
+    WrongType,
+    /// A closed chain arises.
+    Cyclic(Evidence),
+    /// The transaction has as many moments as the limit, and one more is due.
+    Endless(Evidence),
+    /// With an instance there would be more nodes than the limit.
+    Full(Evidence),
+    /// There is no live node of the name.
+    UnknownNode,
+    /// No listener has the key.
+    UnknownListener,
+    /// Another caller joined the listener.
+    NotYours,
+}
+
+/// The reply to a command: the number of moments of an accepted send; why the command is refused; the key of a listener
+/// that joined; the items that a listener takes; all that a listener that left was still to be given.
 #[derive(Drop)]
 pub enum Reply {
     Accepted { moments: u64 },
+    Refused(No),
     Joined(Key),
+    Given(Seq<Delivered>),
     Left(Seq<Delivered>),
 }
 

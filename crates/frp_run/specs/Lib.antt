@@ -1,10 +1,5 @@
-pub mod File
-pub mod Reading
-pub mod Small
-pub mod Nodes
-pub mod Programs
-pub mod Engine
-pub mod Core
-pub mod Report
+pub mod Texts
+pub mod Gives
+pub mod Lines
 pub mod Runs
 pub mod Answers

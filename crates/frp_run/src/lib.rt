@@ -2,18 +2,13 @@
 #![tactic(auto)]
 
 mod answer;
-mod engine;
-mod file;
-mod machine;
-mod nodes;
+mod lines;
+mod modes;
 mod outside;
 mod plain;
-mod program;
-mod reader;
-mod report;
+mod refused;
 mod runs;
-#[cfg(test)]
-mod tests;
-mod windows;
+mod text;
+mod understood;
 
 pub use plain::frp_plain;

@@ -1,19 +1,16 @@
-//! The run of a file: its listeners join, its sender sends, and the listeners leave.
+//! The run of a program: its listeners join, its sender sends, and the listeners leave.
 
-ghost use Rattle.std.specs.Prelude.{◌≡◌, ◌≤◌, [], IfOk, OnOk, IsTrue, length};
+ghost use Rattle.std.specs.Prelude.{◌≡◌, ◌+◌, ◌≤◌, [], IfOk, OnOk, IsTrue, length};
 ghost use Rattle.std.specs.List.{AllByRecursion};
 ghost use Rattle.frp_graph.specs.TypedProg.{IsTypedProg};
 ghost use Rattle.frp_graph.specs.Sessions.{IsSession};
-ghost use Rattle.frp_run.specs.File.{is_lawful};
-ghost use Rattle.frp_run.specs.Programs.{prog_of, listens_of, scripts_of};
-ghost use Rattle.frp_run.specs.Small.{is_built, HasNode, HasSink};
-ghost use Rattle.frp_run.specs.Core.{IsCore, program};
-ghost use Rattle.frp_run.specs.Runs.{first_script, HaveJoined, HasSent, HaveLeft, HasListeners};
+ghost use Rattle.frp_core.specs.Small.{is_built, HasNode};
+ghost use Rattle.frp_graph.specs.Limits.{program_limits};
+ghost use Rattle.frp_core.specs.Core.{IsCore, program};
+ghost use Rattle.frp_run.specs.Runs.{first_script, HasRoomFor, HaveJoined, HasSent, HaveLeft, HasListeners};
 
-use crate::file::File;
-use crate::machine::Core;
-use crate::program::{Typed, program_of};
 use frp_base::{Memory, Name, Seq};
+use frp_core::Core;
 use frp_graph::{Fact, Key, Prog};
 use std::alloc::Global;
 
@@ -27,9 +24,10 @@ pub fn run(
 ) -> Result<Core, Memory>
     requires typed { IsTypedProg prog }
     requires built { IsTrue (is_built prog) }
+    requires lines { length prog.body.lines ≤ program_limits.nodes }
     requires listens { AllByRecursion (HasNode prog) listens.now }
     requires senders { length scripts.now ≤ 1 }
-    requires sends { AllByRecursion (λ facts. AllByRecursion (λ f. HasSink prog f.node) facts) scripts.now }
+    requires entries { length listens.now + length (first_script scripts.now) + length listens.now ≤ program_limits.entries }
     ensures core { IfOk result (λ c. IsCore c) }
     ensures same { IfOk result (λ c. program c ≡ prog) }
     ensures session { IfOk result (λ c. IsSession listens.now scripts.now c.entries) }
@@ -44,6 +42,7 @@ pub fn run(
 /// Joins each node, in order, as caller 0.
 fn join_all(alloc: Global, core: &mut Core, nodes: &[Name]) -> Result<Seq<Key>, Memory>
     requires core { IsCore core.old }
+    requires room { HasRoomFor (length nodes.now) core.old }
     requires nodes { AllByRecursion (HasNode (program core.old)) nodes.now }
     ensures { IfOk result (λ keys. HaveJoined core.old core.new nodes.now keys) }
 {
@@ -58,7 +57,7 @@ fn join_all(alloc: Global, core: &mut Core, nodes: &[Name]) -> Result<Seq<Key>, 
 /// Makes the sends of the first script, where there is one.
 fn send_scripts(alloc: Global, core: &mut Core, scripts: &[Seq<Fact>]) -> Result<(), Memory>
     requires core { IsCore core.old }
-    requires sends { AllByRecursion (λ facts. AllByRecursion (λ f. HasSink (program core.old) f.node) facts) scripts.now }
+    requires room { HasRoomFor (length (first_script scripts.now)) core.old }
     ensures { OnOk result (HasSent core.old core.new (first_script scripts.now)) }
 {
     match scripts {
@@ -70,7 +69,7 @@ fn send_scripts(alloc: Global, core: &mut Core, scripts: &[Seq<Fact>]) -> Result
 /// Makes the sends of a script, in order, as caller 1.
 fn send_all(alloc: Global, core: &mut Core, script: &[Fact]) -> Result<(), Memory>
     requires core { IsCore core.old }
-    requires sends { AllByRecursion (λ f. HasSink (program core.old) f.node) script.now }
+    requires room { HasRoomFor (length script.now) core.old }
     ensures { OnOk result (HasSent core.old core.new script.now) }
 {
     for fact in script {
@@ -89,6 +88,7 @@ fn send_all(alloc: Global, core: &mut Core, script: &[Fact]) -> Result<(), Memor
 /// The listeners of these nodes leave, in order, as caller 0.
 fn leave_all(alloc: Global, core: &mut Core, nodes: &[Name], keys: &[Key]) -> Result<(), Memory>
     requires core { IsCore core.old }
+    requires room { HasRoomFor (length nodes.now) core.old }
     requires listeners { HasListeners core.old nodes.now keys.now }
     ensures { OnOk result (HaveLeft core.old core.new keys.now) }
 {
@@ -96,19 +96,4 @@ fn leave_all(alloc: Global, core: &mut Core, nodes: &[Name], keys: &[Key]) -> Re
         core.leave(alloc, 0, keys[i], node)?;
     }
     Ok(())
-}
-
-/// The session of a lawful file, by its meaning.
-pub fn replay(alloc: Global, file: &File) -> Result<Core, Memory>
-    requires { IsTrue (is_lawful file.now) }
-    ensures core { IfOk result (λ c. IsCore c) }
-    ensures same { IfOk result (λ c. program c ≡ prog_of file.now) }
-    ensures session { IfOk result (λ c. IsSession (listens_of file.now) (scripts_of file.now) c.entries) }
-{
-    let Typed {
-        prog,
-        listens,
-        scripts,
-    } = program_of(alloc, file)?;
-    run(alloc, prog, listens.as_slice(), scripts.as_slice())
 }

@@ -1,0 +1,15 @@
+pub mod Sigs
+pub mod Settling
+pub mod Ready
+pub mod Lines
+pub mod Lookups
+pub mod Times
+pub mod Names
+pub mod Chainless
+pub mod TypedFacts
+pub mod WellTyped
+pub mod NewMoment
+pub mod Traces
+pub mod Replies
+pub mod Cores
+pub mod Living

@@ -1,0 +1,131 @@
+-- A trace whose times are those of a history is one of the program.
+use Rattle.std.proofs.Common.{◌≡◌, ℕ, ◌+◌, Bool, true, false, cond, List, [], ◌∷◌, ◌++◌, map, Option, Some, None, refl, sym, ap, ◌∙◌, subst, arith, append_assoc}
+use Rattle.std.specs.Prelude.{is_some, filter, nat_lt, ◌||◌, ◌&&◌, if◌then◌else◌}
+use Rattle.std.specs.List.{AllByRecursion, list_any}
+use Rattle.std.specs.List.Sorted.{IsStrictlySortedBy}
+use Rattle.std.proofs.lemmas.Bool.Decides.{nat_tests}
+use Rattle.frp_base.specs.declared.time.Time.{Time}
+use Rattle.frp_base.specs.declared.name.Name.{Name}
+use Rattle.frp_base.specs.Time.{time_eq, time_cmp, parent_and_number}
+use Rattle.frp_base.specs.Name.{name_eq}
+use Rattle.frp_graph.specs.declared.trace.Node.{Node}
+use Rattle.frp_graph.specs.declared.trace.Moment.{Moment}
+use Rattle.frp_graph.specs.declared.prog.Prog.{Prog}
+use Rattle.frp_graph.specs.declared.shape.Shape.{Shape}
+use Rattle.frp_graph.specs.declared.shape.Shape.TheVariants.{Sink, Never, Map, Filter, Hold}
+use Rattle.frp_graph.specs.declared.history.Entry.{Entry}
+use Rattle.frp_graph.specs.Trace.{live, moment_at, sight_of, Sight}
+use Rattle.frp_graph.specs.Equations.{Sent, sent_in, row}
+use Rattle.frp_graph.specs.Moments.{build, items_to_split, splits_at, live_at, is_child_due, is_due, IsMoment, IsTrace, AtEach}
+use Rattle.frp_graph.specs.History.{sends_of}
+use Rattle.frp_core.specs.Small.{IsSmall, AreSmallFrom}
+use Rattle.frp_core.specs.Core.{times_of}
+use Rattle.frp_core.proofs.Times.{at_place, times_rise, all_left, all_right, all_both, all_follow}
+
+-- Due times.
+
+moment_is : (t : Time) (ms : List Moment) → is_some (moment_at ms t) ≡ list_any (λ u. time_eq u t) (map (λ m. m.time) ms)
+moment_is t [] = refl
+moment_is t (m ∷ ms) = by_test (time_eq m.time t) (moment_is t ms) where
+  by_test : (b : Bool) → is_some (moment_at ms t) ≡ list_any (λ u. time_eq u t) (map (λ m. m.time) ms)
+      → is_some (if b then Some m else moment_at ms t) ≡ (b || list_any (λ u. time_eq u t) (map (λ m. m.time) ms))
+  by_test true e = refl
+  by_test false e = e
+
+any_mapped : {A B : Type 0} (p : B → Bool) (f : A → B) (xs : List A) → list_any p (map f xs) ≡ list_any (λ x. p (f x)) xs
+any_mapped p f [] = refl
+any_mapped p f (x ∷ xs) = ap (λ b. p (f x) || b) (any_mapped p f xs)
+
+any_none : {A : Type 0} (p : A → Bool) (xs : List A) → AllByRecursion (λ x. p x ≡ false) xs → list_any p xs ≡ false
+any_none p [] h = refl
+any_none p (x ∷ xs) h = rw h.0 (any_none p xs h.1)
+
+no_items : (m : Moment) (k : ℕ) (s : Shape) → IsSmall k s → items_to_split m s ≡ 0
+no_items m k Sink h = refl
+no_items m k Never h = refl
+no_items m k (Map f s) h = refl
+no_items m k (Filter f s) h = refl
+no_items m k (Hold s) h = refl
+no_items m k _ h = absurd h
+
+abbrev SplitsNothing : Node → Type 0
+SplitsNothing x = (m : Moment) (i : ℕ) → nat_lt i (items_to_split m x.shape) ≡ false
+
+none_split : (k : ℕ) (xs : List Node) → AreSmallFrom k xs → AllByRecursion SplitsNothing xs
+none_split k [] s = tt
+none_split k (x ∷ xs) s = ((λ m i. ap (nat_lt i) (no_items m k x.shape s.1) ∙ (let e : nat_lt i 0 ≡ false = grind (arith, nat_tests) in e)), none_split (k + 1) xs s.2)
+
+live_some : (P : Node → Type 0) (p : Moment → Bool) (ms : List Moment) → AllByRecursion P (live ms) → AllByRecursion P (live (filter p ms))
+live_some P p [] h = tt
+live_some P p (m ∷ ms) h = by_test (p m) (all_left P m.born (live ms) h) (live_some P p ms (all_right P m.born (live ms) h)) where
+  by_test : (b : Bool) → AllByRecursion P m.born → AllByRecursion P (live (filter p ms)) → AllByRecursion P (live (cond b (m ∷ filter p ms) (filter p ms)))
+  by_test true h k = all_both P m.born (live (filter p ms)) h k
+  by_test false h k = k
+
+module _ (trace : List Moment) (small : AreSmallFrom 0 (live trace)) where
+  no_splits : (u : Time) (i : ℕ) (m : Option Moment) → splits_at trace u i m ≡ false
+  no_splits u i None = refl
+  no_splits u i (Some m) = any_none (λ x. nat_lt i (items_to_split m x.shape)) (live_at trace u)
+      (all_follow SplitsNothing (λ x. nat_lt i (items_to_split m x.shape) ≡ false) (λ x h. h m i) (live_at trace u) (live_some SplitsNothing _ trace (none_split 0 (live trace) small)))
+
+  no_child : (p : Option (Time × ℕ)) → is_child_due trace p ≡ false
+  no_child None = refl
+  no_child (Some p) = no_splits p.0 p.1 (moment_at trace p.0)
+
+  or_false : (a b : Bool) → b ≡ false → (a || b) ≡ a
+  or_false true b e = refl
+  or_false false b e = e
+
+  due_times : (sends : List Sent) → map (λ m. m.time) trace ≡ build ∷ map at_place sends → (t : Time) → is_some (moment_at trace t) ≡ is_due sends trace t
+  due_times sends e t =
+      moment_is t trace ∙ ap (list_any (λ u. time_eq u t)) e
+      ∙ ap (λ b. time_eq build t || b) (any_mapped (λ u. time_eq u t) at_place sends)
+      ∙ sym (or_false _ _ (no_child (parent_and_number t)))
+
+  -- a trace with the times of a history, whose moments are the program's
+  pub is_trace : (prog : Prog) (entries : List Entry) → map (λ m. m.time) trace ≡ times_of entries → AtEach (IsMoment prog (sends_of entries)) [] trace → IsTrace prog (sends_of entries) trace
+  is_trace prog entries e a = record {
+    rising = subst (IsStrictlySortedBy time_cmp) (sym e) (times_rise entries);
+    due = due_times (sends_of entries) e;
+    moments = a;
+  }
+
+-- Other sends leave a moment as it was, where they agree at its time.
+
+row_sends : (prog : Prog) (sends others : List Sent) (w : Sight) (x : Node) (s : Shape) → ((n : Name) → sent_in sends w.time n ≡ sent_in others w.time n) → row prog sends w x s ≡ row prog others w x s
+row_sends prog sends others w x Sink h = h x.name
+row_sends prog sends others w x _ h = refl
+
+pub moment_sends : (prog : Prog) (sends others : List Sent) (past : List Moment) (m : Moment) → ((n : Name) → sent_in sends m.time n ≡ sent_in others m.time n) → IsMoment prog sends past m → IsMoment prog others past m
+moment_sends prog sends others past m h i = record {
+  born = i.born;
+  equations = all_follow _ _ (λ x e. e ∙ row_sends prog sends others (sight_of past m) x x.shape h) (live (past ++ m ∷ [])) i.equations;
+  facts_of_live = i.facts_of_live;
+  born_rise = i.born_rise;
+  fired_rise = i.fired_rise;
+}
+
+-- one send more changes nothing at other times
+pub sent_more : (sends : List Sent) (s : Sent) (t : Time) (n : Name) → time_eq t (s.place ∷ []) ≡ false → sent_in sends t n ≡ sent_in (sends ++ s ∷ []) t n
+sent_more [] s t n e = rw e refl
+sent_more (r ∷ sends) s t n e = ap (λ o. if time_eq t (r.place ∷ []) && name_eq r.sink n then Some r.value else o) (sent_more sends s t n e)
+
+-- at a time of none of these sends, the last send is all that is sent
+pub sent_last : (sends : List Sent) (s : Sent) (t : Time) (n : Name) → AllByRecursion (λ r. time_eq t (r.place ∷ []) ≡ false) sends → sent_in (sends ++ s ∷ []) t n ≡ sent_in (s ∷ []) t n
+sent_last [] s t n h = refl
+sent_last (r ∷ sends) s t n h = rw h.0 (sent_last sends s t n h.1)
+
+pub sent_none : (sends : List Sent) (t : Time) (n : Name) → AllByRecursion (λ r. time_eq t (r.place ∷ []) ≡ false) sends → sent_in sends t n ≡ None
+sent_none [] t n h = refl
+sent_none (r ∷ sends) t n h = rw h.0 (sent_none sends t n h.1)
+
+-- what holds at each moment, where another fact of each moment helps
+pub each_with : (P Q : List Moment → Moment → Type 0) (R : Moment → Type 0) → ((past : List Moment) (m : Moment) → P past m → R m → Q past m)
+    → (past ms : List Moment) → AtEach P past ms → AllByRecursion R ms → AtEach Q past ms
+each_with P Q R f past [] h r = tt
+each_with P Q R f past (m ∷ ms) h r = (f past m h.0 r.0, each_with P Q R f (past ++ m ∷ []) ms h.1 r.1)
+
+-- births add up
+pub live_append : (ms ks : List Moment) → live (ms ++ ks) ≡ live ms ++ live ks
+live_append [] ks = refl
+live_append (m ∷ ms) ks = ap (λ xs. m.born ++ xs) (live_append ms ks) ∙ sym (append_assoc m.born (live ms) (live ks))

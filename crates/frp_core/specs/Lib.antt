@@ -1,0 +1,4 @@
+pub mod Small
+pub mod Nodes
+pub mod Engine
+pub mod Core

@@ -1,0 +1,34 @@
+-- What reading comes to, and what a call that reads says of it.
+use Rattle.std.specs.Prelude.{◌≡◌, ℕ, List, Result, Ok, Err}
+use Rattle.frp_lex.specs.declared.token.Token.{Token}
+use Rattle.frp_form.specs.declared.fault.FormFault.{FormFault}
+use Rattle.frp_form.specs.declared.fault.FormKind.{FormKind}
+use Rattle.frp_form.specs.declared.fault.FormStop.{FormStop}
+use Rattle.frp_form.specs.declared.fault.FormStop.TheVariants as stop
+
+-- what is read, or the first fault
+abbrev pub Outcome : Type 0 → Type 0
+Outcome A = Result A FormFault
+
+-- what stands at the front of tokens, and the tokens behind it; or the first fault
+abbrev pub Parser : Type 0 → Type 0
+Parser A = List Token → Outcome (A × List Token)
+
+infixl 10 ◌>>=◌
+abbrev pub ◌>>=◌ : {A B : Type 0} → Outcome A → (A → Outcome B) → Outcome B
+(Ok x) >>= f = f x
+(Err e) >>= f = Err e
+
+-- the fault of a kind at a place
+abbrev pub fault : ℕ → FormKind → FormFault
+fault at kind = record { place = at; kind = kind }
+
+-- the call stops with the fault of the outcome, or for want of memory
+abbrev pub Stops : {Y : Type 0} → FormStop → Outcome Y → Type 0
+Stops stop.Memory outcome = Unit {0}
+Stops (stop.Fault f) outcome = outcome ≡ Err f
+
+-- what the call returned, seen by view, is the outcome, unless it found no memory
+abbrev pub Gives : {X Y : Type 0} → (X → Y) → Result X FormStop → Outcome Y → Type 0
+Gives view (Ok x) outcome = outcome ≡ Ok (view x)
+Gives view (Err e) outcome = Stops e outcome

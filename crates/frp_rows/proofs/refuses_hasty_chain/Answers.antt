@@ -1,0 +1,5 @@
+use Rattle.frp_rows.proofs.Computing.{computing, false_true}
+use Rattle.frp_rows.proofs.refuses_hasty_chain.Goals as goal
+
+pub returns : goal.returns
+returns c = λ h. false_true (simp computing at h.cause.closed)

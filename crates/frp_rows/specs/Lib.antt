@@ -1,0 +1,17 @@
+pub mod Writing
+pub mod AddsOne
+pub mod Snapshots
+pub mod LoopedTotal
+pub mod Splits
+pub mod StreamSwitch
+pub mod CellSwitch
+pub mod CellCycle
+pub mod OldInnerCell
+pub mod Instances
+pub mod StreamCycle
+pub mod BirthCycle
+pub mod FullRoom
+pub mod EndlessSplit
+pub mod Takes
+pub mod Refusals
+pub mod Readings

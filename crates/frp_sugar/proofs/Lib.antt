@@ -1,0 +1,2 @@
+pub mod LawfulKept
+pub mod CoreFiles

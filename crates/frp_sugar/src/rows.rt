@@ -1,0 +1,461 @@
+//! The core items of each derived form: a function for each row of the table.
+
+ghost use Rattle.std.specs.Prelude.{◌≡◌, ◌+◌, [], ◌∷◌, ◌++◌, false, true, map, IfOk, OnOk};
+ghost use Rattle.frp_graph.specs.declared.file.Decl.TheVariants as decl;
+ghost use Rattle.frp_graph.specs.declared.file.ShapeForm.TheVariants as shape;
+ghost use Rattle.frp_sugar.specs.Made as made;
+ghost use Rattle.frp_sugar.specs.Shapes as spec;
+ghost use Rattle.frp_sugar.specs.Table.{let_items, shape_functions};
+
+use crate::copies::{copied, copied_param, copied_spot, copied_ty};
+use crate::made::{
+    bool, close, first, hidden_function, hidden_item, list, moved, pair, second, the, variable,
+};
+use crate::site::Site;
+use frp_base::{Boxed, Memory, Seq};
+use frp_expr::{Raw, RawTy, Spot};
+use frp_graph::{Decl, Function, Item, ItemForm, Param, RawShape, ShapeForm};
+use std::alloc::Global;
+
+/// The name of the form's first hidden item, or of the one so many after it.
+fn hidden(alloc: Global, k: Site, past: u64) -> Result<Spot, Memory>
+    ensures { IfOk result (λ s. s ≡ made.spot k.form (made.hidden_item (k.items + past))) }
+{
+    hidden_item(alloc, k.form, k.items, past)
+}
+
+/// The form's first hidden item as an expression, or the one so many after it.
+fn the_hidden(alloc: Global, k: Site, past: u64) -> Result<Boxed<Raw>, Memory>
+    ensures { IfOk result (λ r. r ≡ made.name k.form (made.hidden_item (k.items + past))) }
+{
+    let name = hidden(alloc, k, past)?;
+    the(alloc, k.form, &name)
+}
+
+/// Adds the item `(let name form)`.
+pub fn bind(k: Site, name: Spot, form: ShapeForm, out: &mut Seq<Item>) -> Result<(), Memory>
+    ensures { OnOk result (out.new ≡ out.old ++ made.bound k.item k.form name form ∷ []) }
+{
+    let shape = RawShape { at: k.form, form };
+    out.add(Item {
+        at: k.item,
+        form: ItemForm::Let { name, shape },
+    })
+}
+
+/// Adds the item that ties a loop to what this name stands for.
+fn tie(k: Site, from: Spot, to: &Spot, out: &mut Seq<Item>) -> Result<(), Memory>
+    ensures { OnOk result (out.new ≡ out.old ++ made.tied k.item k.form from to.now ∷ []) }
+{
+    let to = moved(k.form, to)?;
+    out.add(Item {
+        at: k.item,
+        form: ItemForm::Tie { from, to },
+    })
+}
+
+/// Adds the pairs of a stream's occurrences and a cell's values.
+fn pairs(
+    alloc: Global,
+    k: Site,
+    name: Spot,
+    s: Boxed<Raw>,
+    c: Boxed<Raw>,
+    out: &mut Seq<Item>,
+) -> Result<(), Memory>
+    ensures { OnOk result (out.new ≡ out.old ++ made.bound k.item k.form name (spec.pairs k.form s c) ∷ []) }
+{
+    let x = variable(alloc, k.form, "%u")?;
+    let y = variable(alloc, k.form, "%v")?;
+    let e = pair(alloc, k.form, &x, &y)?;
+    let form = ShapeForm::Snapshot {
+        x,
+        y,
+        s: s.into_inner(),
+        c: c.into_inner(),
+        e: e.into_inner(),
+    };
+    bind(k, name, form, out)
+}
+
+/// Adds those pairs of a stream whose second part is true.
+fn passing(
+    alloc: Global,
+    k: Site,
+    name: Spot,
+    s: Boxed<Raw>,
+    out: &mut Seq<Item>,
+) -> Result<(), Memory>
+    ensures { OnOk result (out.new ≡ out.old ++ made.bound k.item k.form name (spec.passing k.form s) ∷ []) }
+{
+    let x = variable(alloc, k.form, "%w")?;
+    let e = second(alloc, k.form, &x)?;
+    let form = ShapeForm::Filter {
+        x,
+        s: s.into_inner(),
+        e: e.into_inner(),
+    };
+    bind(k, name, form, out)
+}
+
+/// Adds the first parts of a stream of pairs.
+fn firsts(
+    alloc: Global,
+    k: Site,
+    name: Spot,
+    s: Boxed<Raw>,
+    out: &mut Seq<Item>,
+) -> Result<(), Memory>
+    ensures { OnOk result (out.new ≡ out.old ++ made.bound k.item k.form name (spec.firsts k.form s) ∷ []) }
+{
+    let x = variable(alloc, k.form, "%w")?;
+    let e = first(alloc, k.form, &x)?;
+    let form = ShapeForm::Map {
+        x,
+        s: s.into_inner(),
+        e: e.into_inner(),
+    };
+    bind(k, name, form, out)
+}
+
+/// Adds the second parts of a stream of pairs.
+fn seconds(
+    alloc: Global,
+    k: Site,
+    name: Spot,
+    s: Boxed<Raw>,
+    out: &mut Seq<Item>,
+) -> Result<(), Memory>
+    ensures { OnOk result (out.new ≡ out.old ++ made.bound k.item k.form name (spec.seconds k.form s) ∷ []) }
+{
+    let x = variable(alloc, k.form, "%w")?;
+    let e = second(alloc, k.form, &x)?;
+    let form = ShapeForm::Map {
+        x,
+        s: s.into_inner(),
+        e: e.into_inner(),
+    };
+    bind(k, name, form, out)
+}
+
+/// Adds a loop that is a cell.
+fn loopc(alloc: Global, k: Site, name: Spot, ty: &RawTy, out: &mut Seq<Item>) -> Result<(), Memory>
+    ensures { OnOk result (out.new ≡ out.old ++ made.bound k.item k.form name (shape.Loopc ty.now) ∷ []) }
+{
+    let ty = copied_ty(alloc, ty)?;
+    let form = ShapeForm::Loopc {
+        ty: ty.into_inner(),
+    };
+    bind(k, name, form, out)
+}
+
+/// Adds a cell of what a stream gave last, and of a value before.
+fn hold(
+    k: Site,
+    name: Spot,
+    o: Boxed<Raw>,
+    s: Boxed<Raw>,
+    out: &mut Seq<Item>,
+) -> Result<(), Memory>
+    ensures { OnOk result (out.new ≡ out.old ++ made.bound k.item k.form name (shape.Hold o s) ∷ []) }
+{
+    let form = ShapeForm::Hold {
+        o: o.into_inner(),
+        s: s.into_inner(),
+    };
+    bind(k, name, form, out)
+}
+
+/// What a step of `accum` or `collect` makes of an occurrence and the state.
+#[derive(Clone, Copy)]
+pub struct Step<'a> {
+    pub x: &'a Spot,
+    pub y: &'a Spot,
+    pub s: &'a Raw,
+    pub e: &'a Raw,
+}
+
+/// Adds what the steps make of a stream's occurrences and the state, which is the form's first hidden item.
+fn steps(alloc: Global, k: Site, name: Spot, step: &Step, out: &mut Seq<Item>) -> Result<(), Memory>
+    ensures { OnOk result (out.new ≡ out.old ++ made.bound k.item k.form name (shape.Snapshot step.now.x.now step.now.y.now step.now.s.now (made.name k.form (made.hidden_item k.items)) step.now.e.now) ∷ []) }
+{
+    let x = copied_spot(step.x)?;
+    let y = copied_spot(step.y)?;
+    let s = copied(alloc, step.s)?;
+    let c = the_hidden(alloc, k, 0)?;
+    let e = copied(alloc, step.e)?;
+    let form = ShapeForm::Snapshot {
+        x,
+        y,
+        s: s.into_inner(),
+        c: c.into_inner(),
+        e: e.into_inner(),
+    };
+    bind(k, name, form, out)
+}
+
+/// `(orelse a b)`: where both streams occur, what the left one gives.
+pub fn orelse(
+    alloc: Global,
+    k: Site,
+    x: &Spot,
+    a: &Raw,
+    b: &Raw,
+    out: &mut Seq<Item>,
+) -> Result<(), Memory>
+    ensures { OnOk result (out.new ≡ out.old ++ let_items k.item x.now k.form k.items k.functions (shape.Orelse a.now b.now)) }
+{
+    let u = variable(alloc, k.form, "%u")?;
+    let v = variable(alloc, k.form, "%v")?;
+    let a = copied(alloc, a)?;
+    let b = copied(alloc, b)?;
+    let e = the(alloc, k.form, &u)?;
+    let name = copied_spot(x)?;
+    let form = ShapeForm::Merge {
+        x: u,
+        y: v,
+        a: a.into_inner(),
+        b: b.into_inner(),
+        e: e.into_inner(),
+    };
+    bind(k, name, form, out)
+}
+
+/// Adds what a stream gives while a cell is true, under two hidden names and that of the item.
+fn gated(
+    alloc: Global,
+    k: Site,
+    x: &Spot,
+    a: &Spot,
+    b: &Spot,
+    s: Boxed<Raw>,
+    c: Boxed<Raw>,
+    out: &mut Seq<Item>,
+) -> Result<(), Memory>
+    ensures { OnOk result (out.new ≡ out.old ++ made.bound k.item k.form a.now (spec.pairs k.form s c) ∷ made.bound k.item k.form b.now (spec.passing k.form (made.name k.form a.now.text)) ∷ made.bound k.item k.form x.now (spec.firsts k.form (made.name k.form b.now.text)) ∷ []) }
+{
+    pairs(alloc, k, copied_spot(a)?, s, c, out)?;
+    passing(alloc, k, copied_spot(b)?, the(alloc, k.form, a)?, out)?;
+    firsts(alloc, k, copied_spot(x)?, the(alloc, k.form, b)?, out)
+}
+
+/// `(gate s c)`: what s gives while c is true.
+pub fn gate(
+    alloc: Global,
+    k: Site,
+    x: &Spot,
+    s: &Raw,
+    c: &Raw,
+    out: &mut Seq<Item>,
+) -> Result<(), Memory>
+    ensures { OnOk result (out.new ≡ out.old ++ let_items k.item x.now k.form k.items k.functions (shape.Gate s.now c.now)) }
+{
+    let s = copied(alloc, s)?;
+    let c = copied(alloc, c)?;
+    let a = hidden(alloc, k, 0)?;
+    let b = hidden(alloc, k, 1)?;
+    gated(alloc, k, x, &a, &b, s, c, out)
+}
+
+/// Adds an item that gives false whenever a stream occurs.
+fn falses(alloc: Global, k: Site, name: Spot, s: &Raw, out: &mut Seq<Item>) -> Result<(), Memory>
+    ensures { OnOk result (out.new ≡ out.old ++ made.bound k.item k.form name (shape.Map (made.u k.form) s.now (made.bool k.form false)) ∷ []) }
+{
+    let x = variable(alloc, k.form, "%u")?;
+    let s = copied(alloc, s)?;
+    let e = bool(alloc, k.form, false)?;
+    let form = ShapeForm::Map {
+        x,
+        s: s.into_inner(),
+        e: e.into_inner(),
+    };
+    bind(k, name, form, out)
+}
+
+/// Adds a cell that is true until a stream occurs.
+fn unused(alloc: Global, k: Site, s: &Raw, out: &mut Seq<Item>) -> Result<(), Memory>
+    ensures { OnOk result (out.new ≡ out.old ++ made.bound k.item k.form (made.spot k.form (made.hidden_item k.items)) (shape.Map (made.u k.form) s.now (made.bool k.form false)) ∷ made.bound k.item k.form (made.spot k.form (made.hidden_item (k.items + 1))) (shape.Hold (made.bool k.form true) (made.name k.form (made.hidden_item k.items))) ∷ []) }
+{
+    falses(alloc, k, hidden(alloc, k, 0)?, s, out)?;
+    let name = hidden(alloc, k, 1)?;
+    let o = bool(alloc, k.form, true)?;
+    let s = the_hidden(alloc, k, 0)?;
+    hold(k, name, o, s, out)
+}
+
+/// `(once s)`: what s gives first.
+pub fn once(alloc: Global, k: Site, x: &Spot, s: &Raw, out: &mut Seq<Item>) -> Result<(), Memory>
+    ensures { OnOk result (out.new ≡ out.old ++ let_items k.item x.now k.form k.items k.functions (shape.Once s.now)) }
+{
+    unused(alloc, k, s, out)?;
+    let s = copied(alloc, s)?;
+    let c = the_hidden(alloc, k, 1)?;
+    let a = hidden(alloc, k, 2)?;
+    let b = hidden(alloc, k, 3)?;
+    gated(alloc, k, x, &a, &b, s, c, out)
+}
+
+/// Adds the loop of the state, and what the steps make of a stream's occurrences and the state.
+fn stepped(
+    alloc: Global,
+    k: Site,
+    ty: &RawTy,
+    step: &Step,
+    out: &mut Seq<Item>,
+) -> Result<(), Memory>
+    ensures { OnOk result (out.new ≡ out.old ++ made.bound k.item k.form (made.spot k.form (made.hidden_item k.items)) (shape.Loopc ty.now) ∷ made.bound k.item k.form (made.spot k.form (made.hidden_item (k.items + 1))) (shape.Snapshot step.now.x.now step.now.y.now step.now.s.now (made.name k.form (made.hidden_item k.items)) step.now.e.now) ∷ []) }
+{
+    loopc(alloc, k, hidden(alloc, k, 0)?, ty, out)?;
+    steps(alloc, k, hidden(alloc, k, 1)?, step, out)
+}
+
+/// Adds the cell of the second parts of what the steps give, and of a value before.
+fn states(alloc: Global, k: Site, o: &Raw, out: &mut Seq<Item>) -> Result<(), Memory>
+    ensures { OnOk result (out.new ≡ out.old ++ made.bound k.item k.form (made.spot k.form (made.hidden_item (k.items + 2))) (spec.seconds k.form (made.name k.form (made.hidden_item (k.items + 1)))) ∷ made.bound k.item k.form (made.spot k.form (made.hidden_item (k.items + 3))) (shape.Hold o.now (made.name k.form (made.hidden_item (k.items + 2)))) ∷ []) }
+{
+    seconds(
+        alloc,
+        k,
+        hidden(alloc, k, 2)?,
+        the_hidden(alloc, k, 1)?,
+        out,
+    )?;
+    let name = hidden(alloc, k, 3)?;
+    let o = copied(alloc, o)?;
+    let s = the_hidden(alloc, k, 2)?;
+    hold(k, name, o, s, out)
+}
+
+/// `accum`: a cell of the state.
+pub fn accum(
+    alloc: Global,
+    k: Site,
+    x: &Spot,
+    ty: &RawTy,
+    step: &Step,
+    o: &Raw,
+    out: &mut Seq<Item>,
+) -> Result<(), Memory>
+    ensures { OnOk result (out.new ≡ out.old ++ let_items k.item x.now k.form k.items k.functions (shape.Accum ty.now step.now.x.now step.now.y.now step.now.s.now o.now step.now.e.now)) }
+{
+    stepped(alloc, k, ty, step, out)?;
+    hold(
+        k,
+        copied_spot(x)?,
+        copied(alloc, o)?,
+        the_hidden(alloc, k, 1)?,
+        out,
+    )?;
+    tie(k, hidden(alloc, k, 0)?, x, out)
+}
+
+/// `collect`: a stream of the first parts of what the steps give; the second parts are the state.
+pub fn collect(
+    alloc: Global,
+    k: Site,
+    x: &Spot,
+    ty: &RawTy,
+    step: &Step,
+    o: &Raw,
+    out: &mut Seq<Item>,
+) -> Result<(), Memory>
+    ensures { OnOk result (out.new ≡ out.old ++ let_items k.item x.now k.form k.items k.functions (shape.Collect ty.now step.now.x.now step.now.y.now step.now.s.now o.now step.now.e.now)) }
+{
+    stepped(alloc, k, ty, step, out)?;
+    states(alloc, k, o, out)?;
+    firsts(alloc, k, copied_spot(x)?, the_hidden(alloc, k, 1)?, out)?;
+    let state = hidden(alloc, k, 3)?;
+    tie(k, hidden(alloc, k, 0)?, &state, out)
+}
+
+/// Adds the cell of a form's hidden function, closed over the values of a cell.
+fn closures(
+    alloc: Global,
+    k: Site,
+    name: Spot,
+    y: &Spot,
+    ca: &Raw,
+    out: &mut Seq<Item>,
+) -> Result<(), Memory>
+    ensures { OnOk result (out.new ≡ out.old ++ made.bound k.item k.form name (shape.Mapc y.now ca.now (made.close k.form (made.hidden_function k.functions) (made.name k.form y.now.text))) ∷ []) }
+{
+    let function = hidden_function(alloc, k.form, k.functions)?;
+    let e = close(alloc, k.form, function, y)?;
+    let x = copied_spot(y)?;
+    let c = copied(alloc, ca)?;
+    let form = ShapeForm::Mapc {
+        x,
+        c: c.into_inner(),
+        e: e.into_inner(),
+    };
+    bind(k, name, form, out)
+}
+
+/// The parts of `lift2`: the names of the values of two cells, the cells, and the expression over the names.
+#[derive(Clone, Copy)]
+pub struct Lift<'a> {
+    pub x: &'a Param,
+    pub y: &'a Param,
+    pub ca: &'a Raw,
+    pub cb: &'a Raw,
+    pub e: &'a Raw,
+}
+
+/// `lift2`: a cell of what the form's hidden function makes of the values of two cells.
+pub fn lift2(
+    alloc: Global,
+    k: Site,
+    x: &Spot,
+    lift: &Lift,
+    out: &mut Seq<Item>,
+) -> Result<(), Memory>
+    ensures { OnOk result (out.new ≡ out.old ++ let_items k.item x.now k.form k.items k.functions (shape.Lift2 lift.now.x.now lift.now.y.now lift.now.ca.now lift.now.cb.now lift.now.e.now)) }
+{
+    closures(alloc, k, hidden(alloc, k, 0)?, &lift.x.name, lift.ca, out)?;
+    let name = copied_spot(x)?;
+    let cf = the_hidden(alloc, k, 0)?;
+    let ca = copied(alloc, lift.cb)?;
+    let form = ShapeForm::Apply {
+        cf: cf.into_inner(),
+        ca: ca.into_inner(),
+    };
+    bind(k, name, form, out)
+}
+
+/// Adds the hidden function of `lift2`.
+pub fn lifted(alloc: Global, k: Site, lift: &Lift, out: &mut Seq<Decl>) -> Result<(), Memory>
+    ensures { OnOk result (out.new ≡ out.old ++ map decl.Function (shape_functions k.form k.functions (shape.Lift2 lift.now.x.now lift.now.y.now lift.now.ca.now lift.now.cb.now lift.now.e.now))) }
+{
+    let name = hidden_function(alloc, k.form, k.functions)?;
+    let mut kept = Seq::new(alloc);
+    let x = copied_param(alloc, lift.x)?;
+    kept.add(x.into_inner())?;
+    let y = copied_param(alloc, lift.y)?;
+    let e = copied(alloc, lift.e)?;
+    out.add(Decl::Function(Function {
+        at: k.form,
+        name,
+        kept,
+        arg: y.into_inner(),
+        e: e.into_inner(),
+    }))
+}
+
+/// `(defer s)`: what s gives, as the one item of a list that is split.
+pub fn defer(alloc: Global, k: Site, x: &Spot, s: &Raw, out: &mut Seq<Item>) -> Result<(), Memory>
+    ensures { OnOk result (out.new ≡ out.old ++ let_items k.item x.now k.form k.items k.functions (shape.Defer s.now)) }
+{
+    let name = hidden(alloc, k, 0)?;
+    let u = variable(alloc, k.form, "%u")?;
+    let s = copied(alloc, s)?;
+    let e = list(alloc, k.form, &u)?;
+    let form = ShapeForm::Map {
+        x: u,
+        s: s.into_inner(),
+        e: e.into_inner(),
+    };
+    bind(k, name, form, out)?;
+    let name = copied_spot(x)?;
+    let s = the_hidden(alloc, k, 0)?;
+    bind(k, name, ShapeForm::Split { s: s.into_inner() }, out)
+}

@@ -1,0 +1,213 @@
+//! Core shapes, which stand for themselves.
+
+ghost use Rattle.std.specs.Prelude.{◌≡◌, not, IsTrue, IfOk};
+ghost use Rattle.frp_sugar.specs.Derived.{is_derived};
+
+use crate::copies::{all_copied, copied, copied_spot, copied_ty};
+use frp_base::{Boxed, Memory};
+use frp_expr::{Raw, RawTy, Spot};
+use frp_graph::{RawShape, ShapeForm};
+use std::alloc::Global;
+
+/// Whether a shape is a derived form.
+pub fn is_derived(form: &ShapeForm) -> bool
+    ensures { result ≡ is_derived form.now }
+{
+    match form {
+        ShapeForm::Orelse { .. } => true,
+        ShapeForm::Gate { .. } => true,
+        ShapeForm::Once { .. } => true,
+        ShapeForm::Accum { .. } => true,
+        ShapeForm::Collect { .. } => true,
+        ShapeForm::Lift2 { .. } => true,
+        ShapeForm::Defer { .. } => true,
+        _ => false,
+    }
+}
+
+/// A shape at its place.
+fn shape_at(alloc: Global, at: u64, form: ShapeForm) -> Result<Boxed<RawShape>, Memory>
+    ensures { IfOk result (λ s. s ≡ record { at = at; form = form }) }
+{
+    Boxed::new(alloc, RawShape { at, form })
+}
+
+/// A core shape of the same places and forms.
+pub fn copied_shape(alloc: Global, shape: &RawShape) -> Result<Boxed<RawShape>, Memory>
+    requires { IsTrue (not (is_derived shape.now.form)) }
+    ensures { IfOk result (λ s. s ≡ shape.now) }
+{
+    match &shape.form {
+        ShapeForm::Never { ty } => {
+            let ty = copied_ty(alloc, ty)?;
+            shape_at(
+                alloc,
+                shape.at,
+                ShapeForm::Never {
+                    ty: ty.into_inner(),
+                },
+            )
+        }
+        ShapeForm::Constant { o } => {
+            let o = copied(alloc, o)?;
+            shape_at(alloc, shape.at, ShapeForm::Constant { o: o.into_inner() })
+        }
+        ShapeForm::Map { x, s, e } => {
+            let x = copied_spot(x)?;
+            let s = copied(alloc, s)?;
+            let e = copied(alloc, e)?;
+            shape_at(
+                alloc,
+                shape.at,
+                ShapeForm::Map {
+                    x,
+                    s: s.into_inner(),
+                    e: e.into_inner(),
+                },
+            )
+        }
+        ShapeForm::Mapc { x, c, e } => {
+            let x = copied_spot(x)?;
+            let c = copied(alloc, c)?;
+            let e = copied(alloc, e)?;
+            shape_at(
+                alloc,
+                shape.at,
+                ShapeForm::Mapc {
+                    x,
+                    c: c.into_inner(),
+                    e: e.into_inner(),
+                },
+            )
+        }
+        ShapeForm::Filter { x, s, e } => {
+            let x = copied_spot(x)?;
+            let s = copied(alloc, s)?;
+            let e = copied(alloc, e)?;
+            shape_at(
+                alloc,
+                shape.at,
+                ShapeForm::Filter {
+                    x,
+                    s: s.into_inner(),
+                    e: e.into_inner(),
+                },
+            )
+        }
+        ShapeForm::Merge { x, y, a, b, e } => {
+            let x = copied_spot(x)?;
+            let y = copied_spot(y)?;
+            let a = copied(alloc, a)?;
+            let b = copied(alloc, b)?;
+            let e = copied(alloc, e)?;
+            shape_at(
+                alloc,
+                shape.at,
+                ShapeForm::Merge {
+                    x,
+                    y,
+                    a: a.into_inner(),
+                    b: b.into_inner(),
+                    e: e.into_inner(),
+                },
+            )
+        }
+        ShapeForm::Snapshot { x, y, s, c, e } => {
+            let x = copied_spot(x)?;
+            let y = copied_spot(y)?;
+            let s = copied(alloc, s)?;
+            let c = copied(alloc, c)?;
+            let e = copied(alloc, e)?;
+            shape_at(
+                alloc,
+                shape.at,
+                ShapeForm::Snapshot {
+                    x,
+                    y,
+                    s: s.into_inner(),
+                    c: c.into_inner(),
+                    e: e.into_inner(),
+                },
+            )
+        }
+        ShapeForm::Split { s } => {
+            let s = copied(alloc, s)?;
+            shape_at(alloc, shape.at, ShapeForm::Split { s: s.into_inner() })
+        }
+        ShapeForm::Updates { c } => {
+            let c = copied(alloc, c)?;
+            shape_at(alloc, shape.at, ShapeForm::Updates { c: c.into_inner() })
+        }
+        ShapeForm::Value { c } => {
+            let c = copied(alloc, c)?;
+            shape_at(alloc, shape.at, ShapeForm::Value { c: c.into_inner() })
+        }
+        ShapeForm::Loops { ty } => {
+            let ty = copied_ty(alloc, ty)?;
+            shape_at(
+                alloc,
+                shape.at,
+                ShapeForm::Loops {
+                    ty: ty.into_inner(),
+                },
+            )
+        }
+        ShapeForm::Loopc { ty } => {
+            let ty = copied_ty(alloc, ty)?;
+            shape_at(
+                alloc,
+                shape.at,
+                ShapeForm::Loopc {
+                    ty: ty.into_inner(),
+                },
+            )
+        }
+        ShapeForm::Hold { o, s } => {
+            let o = copied(alloc, o)?;
+            let s = copied(alloc, s)?;
+            shape_at(
+                alloc,
+                shape.at,
+                ShapeForm::Hold {
+                    o: o.into_inner(),
+                    s: s.into_inner(),
+                },
+            )
+        }
+        ShapeForm::Apply { cf, ca } => {
+            let cf = copied(alloc, cf)?;
+            let ca = copied(alloc, ca)?;
+            shape_at(
+                alloc,
+                shape.at,
+                ShapeForm::Apply {
+                    cf: cf.into_inner(),
+                    ca: ca.into_inner(),
+                },
+            )
+        }
+        ShapeForm::Switchs { c } => {
+            let c = copied(alloc, c)?;
+            shape_at(alloc, shape.at, ShapeForm::Switchs { c: c.into_inner() })
+        }
+        ShapeForm::Switchc { c } => {
+            let c = copied(alloc, c)?;
+            shape_at(alloc, shape.at, ShapeForm::Switchc { c: c.into_inner() })
+        }
+        ShapeForm::Execute { s, template, kept } => {
+            let s = copied(alloc, s)?;
+            let template = copied_spot(template)?;
+            let kept = all_copied(alloc, kept.as_slice())?;
+            shape_at(
+                alloc,
+                shape.at,
+                ShapeForm::Execute {
+                    s: s.into_inner(),
+                    template,
+                    kept,
+                },
+            )
+        }
+        _ => unreachable!(),
+    }
+}

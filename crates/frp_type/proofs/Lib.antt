@@ -1,0 +1,10 @@
+pub mod LamTypings
+pub mod Noted
+pub mod MoreFuns
+pub mod ClosedTypes
+pub mod ClosedValues
+pub mod TieLines
+pub mod WrittenTypes
+pub mod TypedShapes
+pub mod TypedFiles
+pub mod Finished
