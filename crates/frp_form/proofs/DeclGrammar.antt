@@ -1,8 +1,7 @@
 -- Declarations against the grammar.
-use Rattle.std.proofs.Common.{◌≡◌, ℕ, Bool, true, false, List, [], ◌∷◌, ◌++◌, Option, Some, None, Ok, Err, refl, sym, ap, ◌∙◌, append_assoc}
+use Rattle.std.proofs.Common.{◌≡◌, ℕ, Bool, true, false, List, [], ◌∷◌, ◌++◌, Some, None, Ok, refl, ap, ◌∙◌}
 use Rattle.std.specs.Prelude.{codes}
 use Rattle.frp_lex.specs.declared.token.Token.{Token}
-use Rattle.frp_graph.specs.declared.file.Param.{Param}
 use Rattle.frp_graph.specs.declared.file.Item.{Item}
 use Rattle.frp_graph.specs.declared.file.Give.{Give}
 use Rattle.frp_graph.specs.declared.file.Template.{Template}
@@ -12,17 +11,15 @@ use Rattle.frp_graph.specs.declared.file.Decl.TheVariants as d
 use Rattle.frp_form.specs.declared.item_heads.ItemHead.TheVariants as i
 use Rattle.frp_form.specs.declared.item_heads.DeclHead.{DeclHead}
 use Rattle.frp_form.specs.declared.item_heads.DeclHead.TheVariants as h
-use Rattle.frp_form.specs.declared.over.Over.TheVariants as o
-use Rattle.frp_form.specs.Gives.{Outcome, ◌>>=◌}
 use Rattle.frp_form.specs.Tokens.{left, right, word, spot, opened, head, after_right, begins}
-use Rattle.frp_form.specs.Lists.{many, over_at}
+use Rattle.frp_form.specs.Lists.{many}
 use Rattle.frp_form.specs.Exprs.{whole_expr}
 use Rattle.frp_form.specs.Shapes.{param}
 use Rattle.frp_form.specs.Items.{item_parts, body_item}
 use Rattle.frp_form.specs.Decls.{decl_head, before_give, params, give, template_at, function_at, decl_parts, decl}
-use Rattle.frp_form.specs.Grammar.{left_at, right_at, name_at, name_of, IsUser, AreAll, IsExpr, IsParam, IsCommonItem, let_item, tie_item, IsItem, common, sink_item, cellsink_item, IsBodyItem, AreParams, params_are, IsGive, give_is, IsTemplate, template_is, IsFunction, function_is, IsDecl, template_decl, function_decl, item_decl}
-use Rattle.frp_form.proofs.Steps.{bind_ok, Begins, Sound, Complete, Splits, made, ends_with, both, and_one, one_and, inside, moved, flat, flat₂, flat₃, flat₄, left_sound, right_sound, opened_sound, spot_sound, spot_read, BeginsWithHead, head_sound, head_read}
-use Rattle.frp_form.proofs.ItemLists.{Listed, many_sound, many_read}
+use Rattle.frp_form.specs.Grammar.{left_at, right_at, name_at, name_of, AreAll, IsParam, IsCommonItem, let_item, tie_item, IsItem, common, sink_item, cellsink_item, IsBodyItem, AreParams, params_are, IsGive, give_is, IsTemplate, template_is, IsFunction, function_is, IsDecl, template_decl, function_decl, item_decl}
+use Rattle.frp_form.proofs.Steps.{bind_ok, Begins, Sound, Complete, Splits, made, ends_with, both, and_one, one_and, inside, moved, flat, flat₃, flat₄, left_sound, right_sound, opened_sound, spot_sound, spot_read, head_sound}
+use Rattle.frp_form.proofs.ItemLists.{many_sound, many_read}
 use Rattle.frp_form.proofs.HeadWords.{word_of_decl, decl_named}
 use Rattle.frp_form.proofs.ExprGrammar.{expr_sound, expr_read, right_ended}
 use Rattle.frp_form.proofs.ShapeGrammar.{param_sound, param_read, param_starts}

@@ -1,6 +1,6 @@
 -- Expressions against the grammar.
-use Rattle.std.proofs.Common.{◌≡◌, ℕ, zero, suc, ◌<◌, ◌≤◌, Bool, true, false, List, [], ◌∷◌, ◌++◌, length, Option, Some, None, Ok, Err, refl, sym, ap, ◌∙◌, append_assoc, length-append, arith}
-use Rattle.std.specs.Prelude.{codes, ◌||◌, if◌then◌else◌}
+use Rattle.std.proofs.Common.{◌≡◌, ℕ, zero, suc, ◌<◌, ◌≤◌, Bool, true, false, List, [], ◌∷◌, ◌++◌, length, Some, None, Ok, refl, ap, ◌∙◌, length-append, arith}
+use Rattle.std.specs.Prelude.{codes}
 use Rattle.std.specs.Str.{bytes_eq}
 use Rattle.std.proofs.lemmas.Slice.Eq.{bytes_eq-Decides}
 use Rattle.frp_expr.specs.declared.raw.RawTy.{RawTy}
@@ -14,14 +14,14 @@ use Rattle.frp_form.specs.declared.heads.Head.TheVariants as h
 use Rattle.frp_form.specs.declared.heads.Unary.{Unary}
 use Rattle.frp_form.specs.declared.heads.Binary.{Binary}
 use Rattle.frp_form.specs.declared.heads.Ternary.{Ternary}
-use Rattle.frp_form.specs.Gives.{Outcome, Parser, ◌>>=◌}
+use Rattle.frp_form.specs.Gives.{Outcome, Parser}
 use Rattle.frp_form.specs.Tokens.{right, spot, head, after_right, is_literal}
 use Rattle.frp_form.specs.Types.{ty_at}
 use Rattle.frp_form.specs.Heads.{head_of, raw_at, name_form}
 use Rattle.frp_form.specs.Exprs.{too_many, expr_list, unary_at, binary_at, ternary_at, let_at, list_at, nil_at, close_at, parts_at, form_at, expr_by, expr_layer, expr_at, whole_expr, kept_exprs}
-use Rattle.frp_form.specs.Words.{bool_word, unary_word, binary_word, ternary_word}
-use Rattle.frp_form.specs.Grammar.{left_at, right_at, name_at, name_of, number_at, text_at, IsUser, AreAll, none, more, ExprCase, number, text, true_or_false, name, form_of_one, form_of_two, form_of_three, let_form, list_form, nil_form, close_form, IsTypeOf, IsExprOf, IsExpr}
-use Rattle.frp_form.proofs.Steps.{Says, ok_of, bind_ok, Begins, Sound, Complete, made, ends_with, both, and_one, one_and, one, inside, flat, flat₂, flat₃, right_sound, spot_sound, spot_read, BeginsWithHead, head_sound, head_read}
+use Rattle.frp_form.specs.Words.{unary_word, binary_word, ternary_word}
+use Rattle.frp_form.specs.Grammar.{left_at, right_at, name_at, name_of, AreAll, none, more, ExprCase, number, text, true_or_false, name, form_of_one, form_of_two, form_of_three, let_form, list_form, nil_form, close_form, IsTypeOf, IsExprOf, IsExpr}
+use Rattle.frp_form.proofs.Steps.{bind_ok, Begins, Sound, Complete, made, ends_with, both, and_one, one_and, one, inside, flat, flat₂, flat₃, right_sound, spot_sound, spot_read, head_sound, head_read}
 use Rattle.frp_form.proofs.ItemLists.{Listed, items_sound, items_read, all_within}
 use Rattle.frp_form.proofs.HeadWords.{word_of_expr, expr_named, expr_known}
 use Rattle.frp_form.proofs.TypeGrammar.{types_sound, types_read}

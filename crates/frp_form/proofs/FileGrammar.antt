@@ -1,9 +1,7 @@
 -- Files against the grammar.
-use Rattle.std.proofs.Common.{◌≡◌, ℕ, ◌≤◌, Bool, true, false, List, [], ◌∷◌, ◌++◌, length, Option, Some, None, Ok, Err, refl, sym, ap, ◌∙◌, subst, append_assoc, append-nil, arith}
+use Rattle.std.proofs.Common.{◌≡◌, ℕ, ◌≤◌, Bool, true, false, List, [], ◌∷◌, ◌++◌, length, Some, None, Ok, refl, sym, ap, ◌∙◌, subst, append_assoc, append-nil}
 use Rattle.std.specs.Prelude.{codes}
 use Rattle.frp_lex.specs.declared.token.Token.{Token}
-use Rattle.frp_graph.specs.declared.file.Decl.{Decl}
-use Rattle.frp_graph.specs.declared.file.Graph.{Graph}
 use Rattle.frp_graph.specs.declared.file.Listen.{Listen}
 use Rattle.frp_graph.specs.declared.file.RawSend.{RawSend}
 use Rattle.frp_graph.specs.declared.file.Sender.{Sender}
@@ -11,15 +9,14 @@ use Rattle.frp_graph.specs.declared.file.File.{File}
 use Rattle.frp_form.specs.declared.fault.FormKind.TheVariants as kind
 use Rattle.frp_form.specs.declared.over.Over.TheVariants as o
 use Rattle.frp_form.specs.declared.reading.Reading.{Reading}
-use Rattle.frp_form.specs.Gives.{Outcome, ◌>>=◌}
 use Rattle.frp_form.specs.Tokens.{left, right, word, spot, opened, after_right, begins}
 use Rattle.frp_form.specs.Lists.{items, many, over_at}
 use Rattle.frp_form.specs.Exprs.{whole_expr}
 use Rattle.frp_form.specs.Decls.{decl}
 use Rattle.frp_form.specs.File.{after_listens, at_end, graph, listen, send, sends, sender, senders, file_of}
-use Rattle.frp_form.specs.Grammar.{left_at, right_at, name_at, name_of, IsUser, AreAll, none, more, IsExpr, IsDecl, IsGraph, graph_is, IsListen, listen_is, IsSend, send_is, IsSender, sender_is, most_senders, IsFile, file_is}
+use Rattle.frp_form.specs.Grammar.{left_at, right_at, name_at, name_of, AreAll, none, more, IsDecl, IsGraph, graph_is, IsListen, listen_is, IsSend, send_is, IsSender, sender_is, most_senders, IsFile, file_is}
 use Rattle.frp_form.specs.Laws.{ReadIsGrammar, GrammarIsRead}
-use Rattle.frp_form.proofs.Steps.{ok_of, bind_ok, Begins, Sound, Complete, made, ends_with, both, and_one, one_and, one, moved, flat, right_sound, opened_sound, spot_sound, spot_read}
+use Rattle.frp_form.proofs.Steps.{ok_of, bind_ok, Sound, Complete, made, ends_with, both, and_one, one_and, one, moved, flat, right_sound, opened_sound, spot_sound, spot_read}
 use Rattle.frp_form.proofs.ItemLists.{Listed, items_sound, items_read, many_sound, many_read}
 use Rattle.frp_form.proofs.ExprGrammar.{expr_sound, expr_read, right_ended}
 use Rattle.frp_form.proofs.DeclGrammar.{decl_sound, decl_read, decl_starts}

@@ -1,15 +1,12 @@
 -- The words that heads are written as, and what they mean.
-use Rattle.std.proofs.Common.{◌≡◌, ℕ, Bool, true, false, List, Option, Some, None, refl, sym, ap, ◌∙◌}
+use Rattle.std.proofs.Common.{◌≡◌, ℕ, Bool, true, false, List, Option, Some, None, refl, ap, ◌∙◌}
 use Rattle.std.specs.Prelude.{codes, if◌then◌else◌}
 use Rattle.std.specs.Str.{bytes_eq}
 use Rattle.std.proofs.lemmas.Slice.Eq.{bytes_eq-Decides}
 use Rattle.frp_form.specs.declared.ty_word.TyWord.{TyWord}
 use Rattle.frp_form.specs.declared.ty_word.TyWord.TheVariants as theTyWord
-use Rattle.frp_form.specs.declared.ty_word.AtomTy.{AtomTy}
 use Rattle.frp_form.specs.declared.ty_word.AtomTy.TheVariants as theAtomTy
-use Rattle.frp_form.specs.declared.ty_word.UnaryTy.{UnaryTy}
 use Rattle.frp_form.specs.declared.ty_word.UnaryTy.TheVariants as theUnaryTy
-use Rattle.frp_form.specs.declared.ty_word.BinaryTy.{BinaryTy}
 use Rattle.frp_form.specs.declared.ty_word.BinaryTy.TheVariants as theBinaryTy
 use Rattle.frp_form.specs.declared.heads.Head.{Head}
 use Rattle.frp_form.specs.declared.heads.Head.TheVariants as theHead
@@ -21,17 +18,11 @@ use Rattle.frp_form.specs.declared.heads.Ternary.{Ternary}
 use Rattle.frp_form.specs.declared.heads.Ternary.TheVariants as theTernary
 use Rattle.frp_form.specs.declared.shape_heads.ShapeHead.{ShapeHead}
 use Rattle.frp_form.specs.declared.shape_heads.ShapeHead.TheVariants as theShapeHead
-use Rattle.frp_form.specs.declared.shape_heads.TyShape.{TyShape}
 use Rattle.frp_form.specs.declared.shape_heads.TyShape.TheVariants as theTyShape
-use Rattle.frp_form.specs.declared.shape_heads.UnaryShape.{UnaryShape}
 use Rattle.frp_form.specs.declared.shape_heads.UnaryShape.TheVariants as theUnaryShape
-use Rattle.frp_form.specs.declared.shape_heads.BinaryShape.{BinaryShape}
 use Rattle.frp_form.specs.declared.shape_heads.BinaryShape.TheVariants as theBinaryShape
-use Rattle.frp_form.specs.declared.shape_heads.MapShape.{MapShape}
 use Rattle.frp_form.specs.declared.shape_heads.MapShape.TheVariants as theMapShape
-use Rattle.frp_form.specs.declared.shape_heads.JoinShape.{JoinShape}
 use Rattle.frp_form.specs.declared.shape_heads.JoinShape.TheVariants as theJoinShape
-use Rattle.frp_form.specs.declared.shape_heads.FoldShape.{FoldShape}
 use Rattle.frp_form.specs.declared.shape_heads.FoldShape.TheVariants as theFoldShape
 use Rattle.frp_form.specs.declared.item_heads.ItemHead.{ItemHead}
 use Rattle.frp_form.specs.declared.item_heads.ItemHead.TheVariants as theItemHead

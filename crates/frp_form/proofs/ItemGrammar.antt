@@ -1,5 +1,5 @@
 -- Items against the grammar.
-use Rattle.std.proofs.Common.{◌≡◌, ℕ, List, [], ◌∷◌, ◌++◌, Option, Some, None, Ok, Err, refl, sym, ap, ◌∙◌}
+use Rattle.std.proofs.Common.{◌≡◌, ℕ, List, [], ◌∷◌, ◌++◌, Some, None, Ok, refl, ap, ◌∙◌}
 use Rattle.std.specs.Prelude.{codes}
 use Rattle.frp_lex.specs.declared.token.Token.{Token}
 use Rattle.frp_expr.specs.declared.raw.Spot.{Spot}
@@ -10,15 +10,14 @@ use Rattle.frp_graph.specs.declared.file.Item.{Item}
 use Rattle.frp_graph.specs.declared.file.ItemForm.TheVariants as i
 use Rattle.frp_form.specs.declared.item_heads.ItemHead.{ItemHead}
 use Rattle.frp_form.specs.declared.item_heads.ItemHead.TheVariants as h
-use Rattle.frp_form.specs.Gives.{Outcome, ◌>>=◌}
-use Rattle.frp_form.specs.Tokens.{left, right, spot, head, after_right}
+use Rattle.frp_form.specs.Tokens.{left, right, spot, head}
 use Rattle.frp_form.specs.Types.{whole_ty}
 use Rattle.frp_form.specs.Exprs.{whole_expr}
 use Rattle.frp_form.specs.Shapes.{shape}
 use Rattle.frp_form.specs.Items.{body_head, sink_at, cellsink_at, let_at, tie_at, get_at, item_at, item_parts, body_item}
 use Rattle.frp_form.specs.Decls.{before_give}
-use Rattle.frp_form.specs.Grammar.{left_at, right_at, name_at, name_of, IsUser, IsType, IsExpr, IsShape, IsCommonItem, let_item, tie_item, IsItem, common, sink_item, cellsink_item, IsBodyItem, common_in_body, get_item}
-use Rattle.frp_form.proofs.Steps.{bind_ok, Begins, Sound, Complete, made, ends_with, both, and_one, one_and, one, inside, flat, flat₂, left_sound, right_sound, spot_sound, spot_read, BeginsWithHead, head_sound, head_read}
+use Rattle.frp_form.specs.Grammar.{left_at, right_at, name_at, name_of, IsUser, IsType, IsExpr, IsShape, IsCommonItem, let_item, tie_item, IsItem, sink_item, cellsink_item, IsBodyItem, common_in_body, get_item}
+use Rattle.frp_form.proofs.Steps.{bind_ok, Begins, Sound, Complete, made, ends_with, both, and_one, one_and, one, inside, flat, flat₂, left_sound, right_sound, spot_sound, spot_read, head_sound}
 use Rattle.frp_form.proofs.HeadWords.{word_of_body, body_named}
 use Rattle.frp_form.proofs.TypeGrammar.{type_sound, type_read}
 use Rattle.frp_form.proofs.ExprGrammar.{expr_sound, expr_read}

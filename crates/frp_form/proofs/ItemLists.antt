@@ -1,5 +1,5 @@
 -- Reading items one after the other against the grammar.
-use Rattle.std.proofs.Common.{◌≡◌, ℕ, zero, suc, ◌<◌, ◌≤◌, List, [], ◌∷◌, ◌++◌, length, Option, Some, None, Ok, Err, refl, sym, ap, ◌∙◌, subst, append_assoc, length-append, arith}
+use Rattle.std.proofs.Common.{◌≡◌, ℕ, zero, suc, ◌<◌, ◌≤◌, List, [], ◌∷◌, ◌++◌, length, Option, Some, None, Ok, Err, refl, ap, ◌∙◌, subst, append_assoc, length-append, arith}
 use Rattle.frp_lex.specs.declared.token.Token.{Token}
 use Rattle.frp_form.specs.declared.fault.FormFault.{FormFault}
 use Rattle.frp_form.specs.declared.over.Over.TheVariants as o
@@ -7,7 +7,7 @@ use Rattle.frp_form.specs.Gives.{Outcome, Parser, ◌>>=◌}
 use Rattle.frp_form.specs.Lists.{ended, items, many, over_at}
 use Rattle.frp_form.specs.Grammar.{AreAll, none, more}
 use Rattle.frp_form.proofs.ListLemmas.{one_item}
-use Rattle.frp_form.proofs.Steps.{Says, ok_of, bind_ok, Splits, Begins, Sound, Complete, both}
+use Rattle.frp_form.proofs.Steps.{ok_of, bind_ok, Splits, Begins, Sound, Complete, both}
 
 -- the tokens are at most so many items, and then what ends them
 pub record Listed {A : Type 0} (ends : List Token → Option (List Token)) (Is : A → List Token → Type 0) (n : ℕ) (xs : List A) (ts after : List Token) : Type 0 where

@@ -1,5 +1,5 @@
 -- The tokens that a lawful file is written with are lawful.
-use Rattle.std.proofs.Common.{◌≡◌, ℕ, zero, suc, Bool, true, false, List, [], ◌∷◌, ◌++◌, map, refl, sym, ap, ◌∙◌, subst}
+use Rattle.std.proofs.Common.{◌≡◌, ℕ, zero, suc, Bool, true, false, List, [], ◌∷◌, ◌++◌, map, refl, ap, ◌∙◌}
 use Rattle.std.specs.Prelude.{◌&&◌, nat_le, length, codes, ℤ, pos, negsuc}
 use Rattle.std.specs.List.{list_all}
 use Rattle.frp_expr.specs.declared.raw.Spot.{Spot}
@@ -28,7 +28,7 @@ use Rattle.frp_graph.specs.declared.file.RawSend.{RawSend}
 use Rattle.frp_graph.specs.declared.file.Sender.{Sender}
 use Rattle.frp_graph.specs.declared.file.File.{File}
 use Rattle.frp_form.specs.Writing.{Kinds, joined, parens, form, spot_kind, ty_kinds, ty_kinds_step, expr_kinds, expr_kinds_step, param_kinds, params_kinds, shape_form_kinds, item_kinds, item_form_kinds, template_kinds, function_kinds, decl_kinds, graph_kinds, listen_kinds, send_kinds, sender_kinds, forms_of}
-use Rattle.frp_form.specs.Lawful.{Levels, level, is_user, is_user_spot, are_user_two, ty_within, ty_within_step, expr_within, within_step, all_within, is_lawful_ty, is_lawful_expr, are_lawful_two, are_lawful_three, is_lawful_param, is_lawful_shape, is_lawful_item_form, is_of_graph, is_of_template, is_lawful_item, is_lawful_body_item, is_lawful_template, is_lawful_function, is_lawful_decl, is_lawful_listen, is_lawful_send, is_lawful_sender, is_lawful_file}
+use Rattle.frp_form.specs.Lawful.{level, is_user_spot, are_user_two, ty_within, ty_within_step, expr_within, within_step, all_within, is_lawful_ty, is_lawful_expr, are_lawful_two, are_lawful_three, is_lawful_param, is_lawful_shape, is_lawful_item_form, is_of_graph, is_of_template, is_lawful_item, is_lawful_body_item, is_lawful_template, is_lawful_function, is_lawful_decl, is_lawful_listen, is_lawful_send, is_lawful_sender, is_lawful_file}
 use Rattle.frp_form.proofs.Placed.{both_true}
 use Rattle.frp_form.proofs.PlacedTypes as types
 use Rattle.frp_form.proofs.PlacedExprs as exprs

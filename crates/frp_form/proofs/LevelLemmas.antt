@@ -1,9 +1,8 @@
 -- Levels, and one level less.
-use Rattle.std.proofs.Common.{◌≡◌, ℕ, zero, suc, ◌-◌, ◌<◌, ◌≤◌, Bool, true, false, List, map, refl, sym, ap, ◌∙◌, arith}
-use Rattle.std.specs.List.{list_all}
+use Rattle.std.proofs.Common.{◌≡◌, ℕ, suc, ◌-◌, ◌≤◌, false, sym, ap, ◌∙◌, arith}
 use Rattle.frp_expr.specs.declared.raw.RawTy.{RawTy, out-RawTy}
 use Rattle.frp_expr.specs.declared.raw.Raw.{Raw, out-Raw}
-use Rattle.frp_form.specs.Lawful.{Levels, level, ty_within, ty_within_step, expr_within, within_step, all_within}
+use Rattle.frp_form.specs.Lawful.{ty_within, expr_within}
 use Rattle.frp_form.proofs.PlacedTypes as types
 use Rattle.frp_form.proofs.PlacedExprs as exprs
 

@@ -1,5 +1,5 @@
 -- Tokens of the kinds of items and declarations are those, places apart.
-use Rattle.std.proofs.Common.{◌≡◌, ℕ, Bool, true, false, List, [], ◌∷◌, ◌++◌, map, refl, sym, ap, ◌∙◌}
+use Rattle.std.proofs.Common.{◌≡◌, ℕ, true, List, [], ◌∷◌, ◌++◌, map, refl, ap}
 use Rattle.std.specs.Prelude.{◌&&◌, codes}
 use Rattle.std.specs.List.{list_all}
 use Rattle.frp_expr.specs.declared.raw.Spot.{Spot}
@@ -19,10 +19,10 @@ use Rattle.frp_graph.specs.declared.file.Function.{Function}
 use Rattle.frp_graph.specs.declared.file.Decl.{Decl}
 use Rattle.frp_graph.specs.declared.file.Decl.TheVariants as d
 use Rattle.frp_form.specs.Items.{item_at}
-use Rattle.frp_form.specs.Grammar.{left_at, right_at, name_at, name_of, AreAll, IsType, IsExpr, IsParam, IsShape, IsCommonItem, let_item, tie_item, IsItem, common, sink_item, cellsink_item, IsBodyItem, common_in_body, get_item, AreParams, params_are, IsGive, give_is, IsTemplate, template_is, IsFunction, function_is, IsDecl, template_decl, function_decl, item_decl}
-use Rattle.frp_form.specs.Writing.{Kinds, joined, parens, form, spot_kind, ty_kinds, expr_kinds, param_kinds, params_kinds, shape_kinds, item_kinds, item_form_kinds, template_kinds, function_kinds, decl_kinds}
+use Rattle.frp_form.specs.Grammar.{left_at, right_at, name_at, name_of, IsParam, IsCommonItem, let_item, tie_item, IsItem, common, sink_item, cellsink_item, IsBodyItem, common_in_body, get_item, AreParams, params_are, IsGive, give_is, IsTemplate, template_is, IsFunction, function_is, IsDecl, template_decl, function_decl, item_decl}
+use Rattle.frp_form.specs.Writing.{Kinds, joined, form, spot_kind, ty_kinds, expr_kinds, param_kinds, params_kinds, shape_kinds, item_kinds, item_form_kinds, template_kinds, function_kinds, decl_kinds}
 use Rattle.frp_form.specs.Lawful.{is_user_spot, are_user_two, is_lawful_ty, is_lawful_expr, is_lawful_param, is_lawful_shape, is_lawful_item_form, is_of_graph, is_of_template, is_lawful_item, is_lawful_body_item, is_lawful_template, is_lawful_function, is_lawful_decl}
-use Rattle.frp_form.specs.Places.{unplaced_spot, unplaced_ty, unplaced_expr, unplaced_param, unplaced_shape, unplaced_item, unplaced_item_form, unplaced_give, unplaced_template, unplaced_function, unplaced_decl}
+use Rattle.frp_form.specs.Places.{unplaced_spot, unplaced_param, unplaced_item, unplaced_give, unplaced_template, unplaced_function, unplaced_decl}
 use Rattle.frp_form.proofs.Splitting.{one, ending, part, opening, closing, closing_two, closing_three}
 use Rattle.frp_form.proofs.Placed.{Placed, both_true, user, all_placed}
 use Rattle.frp_form.proofs.PlacedTypes.{type_placed}

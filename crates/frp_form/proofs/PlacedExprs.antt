@@ -6,13 +6,12 @@ use Rattle.std.proofs.lemmas.List.{length-map}
 use Rattle.std.proofs.lemmas.Grind.{common_steps}
 use Rattle.frp_expr.specs.declared.raw.Spot.{Spot}
 use Rattle.frp_expr.specs.declared.raw.RawTy.{RawTy}
-use Rattle.frp_expr.specs.declared.raw.Raw.{Raw, Raw-F, roll-Raw, out-Raw, roll-out-Raw, fold-Raw, fold-roll-Raw}
+use Rattle.frp_expr.specs.declared.raw.Raw.{Raw, Raw-F, out-Raw, roll-out-Raw, fold-Raw, fold-roll-Raw}
 use Rattle.frp_expr.specs.declared.raw.RawForm.{RawForm, RawForm-F, roll-RawForm, out-RawForm, roll-out-RawForm, fold-RawForm, fold-roll-RawForm, map-RawForm}
 use Rattle.frp_expr.specs.declared.raw.RawForm.TheVariants as f
 use Rattle.frp_expr.specs.declared.raw.RawForm.TheOpen as o
 use Rattle.frp_expr.specs.Operators.{most}
 use Rattle.frp_expr.specs.Raw.{is_lawful, is_lawful_step}
-use Rattle.frp_lex.specs.declared.token.Kind.{Kind}
 use Rattle.frp_lex.specs.declared.token.Kind.TheVariants as k
 use Rattle.frp_lex.specs.declared.token.Token.{Token}
 use Rattle.frp_lex.specs.Spelling.{kinds}
@@ -24,10 +23,10 @@ use Rattle.frp_form.specs.declared.heads.Ternary.{Ternary}
 use Rattle.frp_form.specs.declared.heads.Ternary.TheVariants as t
 use Rattle.frp_form.specs.Heads.{raw_at, unary_form, binary_form, ternary_form}
 use Rattle.frp_form.specs.Words.{bool_word, unary_word, binary_word, ternary_word}
-use Rattle.frp_form.specs.Grammar.{left_at, right_at, name_at, name_of, AreAll, ExprCase, number, text, true_or_false, name, form_of_one, form_of_two, form_of_three, let_form, list_form, nil_form, close_form, IsTypeOf, IsExprOf, IsExpr}
+use Rattle.frp_form.specs.Grammar.{left_at, name_at, name_of, AreAll, ExprCase, number, text, true_or_false, name, form_of_one, form_of_two, form_of_three, let_form, list_form, nil_form, close_form, IsTypeOf, IsExprOf, IsExpr}
 use Rattle.frp_form.specs.Writing.{Kinds, joined, form, spot_kind, ty_kinds, expr_kinds, expr_kinds_step}
 use Rattle.frp_form.specs.Lawful.{Levels, level, is_user, is_user_spot, ty_within, within_step, expr_within, all_within, is_lawful_expr}
-use Rattle.frp_form.specs.Places.{unplaced_spot, unplaced_ty, unplaced_step, unplaced_expr}
+use Rattle.frp_form.specs.Places.{unplaced_spot, unplaced_step, unplaced_expr}
 use Rattle.frp_form.proofs.Splitting.{one, ending, opening, closing, closing_two, closing_three}
 use Rattle.frp_form.proofs.Placed.{Placed, both_true, user, all_placed, as_long}
 use Rattle.frp_form.proofs.PlacedTypes.{types_placed}

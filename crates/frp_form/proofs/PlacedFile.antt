@@ -1,9 +1,8 @@
 -- Tokens of the kinds of a file are that file, places apart.
-use Rattle.std.proofs.Common.{◌≡◌, ℕ, ◌≤◌, Bool, true, false, List, [], ◌∷◌, ◌++◌, length, map, refl, sym, ap, ◌∙◌, append_assoc, arith}
+use Rattle.std.proofs.Common.{◌≡◌, ℕ, ◌≤◌, true, List, [], ◌∷◌, ◌++◌, length, map, refl, sym, ap, ◌∙◌, append_assoc, arith}
 use Rattle.std.specs.Prelude.{◌&&◌, nat_le, codes}
 use Rattle.std.specs.List.{list_all}
 use Rattle.std.proofs.lemmas.Grind.{common_steps}
-use Rattle.frp_expr.specs.declared.raw.Spot.{Spot}
 use Rattle.frp_expr.specs.declared.raw.Raw.{Raw}
 use Rattle.frp_lex.specs.declared.token.Kind.TheVariants as k
 use Rattle.frp_lex.specs.declared.token.Token.{Token}
@@ -14,11 +13,10 @@ use Rattle.frp_graph.specs.declared.file.Listen.{Listen}
 use Rattle.frp_graph.specs.declared.file.RawSend.{RawSend}
 use Rattle.frp_graph.specs.declared.file.Sender.{Sender}
 use Rattle.frp_graph.specs.declared.file.File.{File}
-use Rattle.frp_form.specs.declared.reading.Reading.{Reading}
-use Rattle.frp_form.specs.Grammar.{left_at, right_at, name_at, name_of, AreAll, IsExpr, IsDecl, IsGraph, graph_is, IsListen, listen_is, IsSend, send_is, IsSender, sender_is, IsFile, file_is}
-use Rattle.frp_form.specs.Writing.{Kinds, joined, form, spot_kind, expr_kinds, decl_kinds, graph_kinds, listen_kinds, send_kinds, sender_kinds, forms_of}
+use Rattle.frp_form.specs.Grammar.{left_at, name_at, name_of, IsDecl, IsGraph, graph_is, IsListen, listen_is, IsSend, send_is, IsSender, sender_is, IsFile, file_is}
+use Rattle.frp_form.specs.Writing.{Kinds, joined, spot_kind, expr_kinds, decl_kinds, graph_kinds, listen_kinds, send_kinds, sender_kinds, forms_of}
 use Rattle.frp_form.specs.Lawful.{is_user_spot, is_lawful_expr, is_lawful_decl, is_lawful_listen, is_lawful_send, is_lawful_sender, is_lawful_file}
-use Rattle.frp_form.specs.Places.{unplaced_spot, unplaced_expr, unplaced_decl, unplaced_graph, unplaced_listen, unplaced_send, unplaced_sender, unplaced}
+use Rattle.frp_form.specs.Places.{unplaced_spot, unplaced_decl, unplaced_graph, unplaced_listen, unplaced_send, unplaced_sender, unplaced}
 use Rattle.frp_form.specs.RoundTrip.{in_check}
 use Rattle.frp_form.proofs.Splitting.{ending, part, opening, closing}
 use Rattle.frp_form.proofs.Placed.{Placed, both_true, user, all_placed, as_long}

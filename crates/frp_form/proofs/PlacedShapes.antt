@@ -1,5 +1,5 @@
 -- Tokens of the kinds of a shape are that shape, places apart.
-use Rattle.std.proofs.Common.{◌≡◌, ℕ, Bool, true, false, List, [], ◌∷◌, ◌++◌, map, refl, sym, ap, ◌∙◌}
+use Rattle.std.proofs.Common.{◌≡◌, ℕ, true, List, [], ◌∷◌, ◌++◌, map, refl, sym, ap, ◌∙◌}
 use Rattle.std.specs.Prelude.{◌&&◌, codes}
 use Rattle.std.specs.List.{list_all}
 use Rattle.frp_expr.specs.declared.raw.Spot.{Spot}
@@ -27,8 +27,8 @@ use Rattle.frp_form.specs.declared.shape_heads.FoldShape.TheVariants as d
 use Rattle.frp_form.specs.ShapeHeads.{typed_shape, unary_shape, binary_shape, map_shape, join_shape, fold_shape}
 use Rattle.frp_form.specs.Shapes.{shape_at}
 use Rattle.frp_form.specs.Words.{typed_word, unary_shape_word, binary_shape_word, map_word, join_word, fold_word}
-use Rattle.frp_form.specs.Grammar.{left_at, right_at, name_at, name_of, AreAll, IsType, IsExpr, IsParam, param_is, IsShape, typed, shape_of_one, shape_of_two, mapping, joining, folding, lifting, executing}
-use Rattle.frp_form.specs.Writing.{Kinds, joined, parens, form, spot_kind, ty_kinds, expr_kinds, param_kinds, shape_kinds, shape_form_kinds}
+use Rattle.frp_form.specs.Grammar.{left_at, right_at, name_at, name_of, IsType, IsExpr, IsParam, param_is, IsShape, typed, shape_of_one, shape_of_two, mapping, joining, folding, lifting, executing}
+use Rattle.frp_form.specs.Writing.{Kinds, joined, form, spot_kind, ty_kinds, expr_kinds, param_kinds, shape_kinds, shape_form_kinds}
 use Rattle.frp_form.specs.Lawful.{is_user_spot, are_user_two, is_lawful_ty, is_lawful_expr, are_lawful_two, are_lawful_three, is_lawful_param, is_lawful_shape}
 use Rattle.frp_form.specs.Places.{unplaced_spot, unplaced_ty, unplaced_expr, unplaced_param, unplaced_shape, unplaced_shape_form}
 use Rattle.frp_form.proofs.Splitting.{one, part, opening, closing, closing_two, closing_three}

@@ -1,7 +1,7 @@
 -- Tokens of the kinds of a type are that type, places apart.
-use Rattle.std.proofs.Common.{◌≡◌, ℕ, zero, suc, Bool, true, false, List, [], ◌∷◌, ◌++◌, refl, sym, ap, ◌∙◌, subst}
-use Rattle.std.specs.Prelude.{◌&&◌, codes}
-use Rattle.frp_expr.specs.declared.raw.RawTy.{RawTy, RawTy-F, roll-RawTy, out-RawTy, roll-out-RawTy, fold-RawTy, fold-roll-RawTy}
+use Rattle.std.proofs.Common.{◌≡◌, ℕ, zero, suc, Bool, true, List, [], ◌∷◌, ◌++◌, refl, sym, ap, ◌∙◌, subst}
+use Rattle.std.specs.Prelude.{◌&&◌}
+use Rattle.frp_expr.specs.declared.raw.RawTy.{RawTy, RawTy-F, out-RawTy, roll-out-RawTy, fold-RawTy, fold-roll-RawTy}
 use Rattle.frp_expr.specs.declared.raw.TyForm.{TyForm, TyForm-F, roll-TyForm, out-TyForm, roll-out-TyForm, fold-TyForm, fold-roll-TyForm, map-TyForm}
 use Rattle.frp_expr.specs.declared.raw.TyForm.TheVariants as f
 use Rattle.frp_expr.specs.declared.raw.TyForm.TheOpen as y
@@ -16,7 +16,7 @@ use Rattle.frp_form.specs.declared.ty_word.BinaryTy.{BinaryTy}
 use Rattle.frp_form.specs.declared.ty_word.BinaryTy.TheVariants as b
 use Rattle.frp_form.specs.Types.{raw_ty, atom_ty, unary_ty, binary_ty}
 use Rattle.frp_form.specs.Words.{atom_word, unary_ty_word, binary_ty_word}
-use Rattle.frp_form.specs.Grammar.{word_at, left_at, right_at, TypeCase, atom, type_of_one, type_of_two, IsTypeOf, IsType}
+use Rattle.frp_form.specs.Grammar.{word_at, left_at, TypeCase, atom, type_of_one, type_of_two, IsTypeOf, IsType}
 use Rattle.frp_form.specs.Writing.{Kinds, parens, ty_kinds, ty_kinds_step}
 use Rattle.frp_form.specs.Lawful.{Levels, level, ty_within, ty_within_step, is_lawful_ty}
 use Rattle.frp_form.specs.Places.{unplaced_ty}

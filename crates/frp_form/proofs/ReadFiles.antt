@@ -1,5 +1,5 @@
 -- Files of the grammar, of lawful tokens, are lawful.
-use Rattle.std.proofs.Common.{◌≡◌, ℕ, ◌≤◌, Bool, true, false, List, [], ◌∷◌, ◌++◌, length, refl, sym, ap, ◌∙◌, arith}
+use Rattle.std.proofs.Common.{◌≡◌, ℕ, ◌≤◌, Bool, true, false, List, [], ◌∷◌, ◌++◌, length, refl, ◌∙◌, arith}
 use Rattle.std.specs.Prelude.{◌&&◌, nat_le, codes, if◌then◌else◌}
 use Rattle.std.specs.List.{list_all}
 use Rattle.std.proofs.lemmas.Grind.{common_steps}
@@ -9,7 +9,6 @@ use Rattle.frp_expr.specs.declared.raw.Raw.{Raw}
 use Rattle.frp_lex.specs.declared.token.Token.{Token}
 use Rattle.frp_graph.specs.declared.file.Param.{Param}
 use Rattle.frp_graph.specs.declared.file.RawShape.{RawShape}
-use Rattle.frp_graph.specs.declared.file.ShapeForm.{ShapeForm}
 use Rattle.frp_graph.specs.declared.file.Item.{Item}
 use Rattle.frp_graph.specs.declared.file.Give.{Give}
 use Rattle.frp_graph.specs.declared.file.Template.{Template}
@@ -34,8 +33,8 @@ use Rattle.frp_form.specs.declared.shape_heads.FoldShape.{FoldShape}
 use Rattle.frp_form.specs.declared.shape_heads.FoldShape.TheVariants as d
 use Rattle.frp_form.specs.ShapeHeads.{typed_shape, unary_shape, binary_shape, map_shape, join_shape, fold_shape}
 use Rattle.frp_form.specs.Words.{unary_shape_word, binary_shape_word, map_word, join_word, fold_word}
-use Rattle.frp_form.specs.Grammar.{left_at, right_at, name_of, IsUser, AreAll, none, more, IsType, IsExpr, IsParam, param_is, IsShape, typed, shape_of_one, shape_of_two, mapping, joining, folding, lifting, executing, IsCommonItem, let_item, tie_item, IsItem, common, sink_item, cellsink_item, IsBodyItem, common_in_body, get_item, AreParams, params_are, IsGive, give_is, IsTemplate, template_is, IsFunction, function_is, IsDecl, template_decl, function_decl, item_decl, IsGraph, graph_is, IsListen, listen_is, IsSend, send_is, IsSender, sender_is, IsFile, file_is}
-use Rattle.frp_form.specs.Lawful.{is_user_spot, are_user_two, is_lawful_ty, is_lawful_expr, are_lawful_two, are_lawful_three, is_lawful_param, is_lawful_shape, is_lawful_item_form, is_of_graph, is_of_template, is_lawful_item, is_lawful_body_item, is_lawful_template, is_lawful_function, is_lawful_decl, is_lawful_listen, is_lawful_send, is_lawful_sender, is_lawful_file}
+use Rattle.frp_form.specs.Grammar.{left_at, right_at, name_of, IsExpr, IsParam, param_is, IsShape, typed, shape_of_one, shape_of_two, mapping, joining, folding, lifting, executing, IsCommonItem, let_item, tie_item, IsItem, common, sink_item, cellsink_item, IsBodyItem, common_in_body, get_item, AreParams, params_are, IsGive, give_is, IsTemplate, template_is, IsFunction, function_is, IsDecl, template_decl, function_decl, item_decl, IsGraph, graph_is, IsListen, listen_is, IsSend, send_is, IsSender, sender_is, IsFile, file_is}
+use Rattle.frp_form.specs.Lawful.{is_user_spot, are_user_two, is_lawful_ty, is_lawful_expr, are_lawful_two, are_lawful_three, is_lawful_param, is_lawful_shape, is_lawful_item, is_lawful_body_item, is_lawful_template, is_lawful_function, is_lawful_decl, is_lawful_listen, is_lawful_send, is_lawful_sender, is_lawful_file}
 use Rattle.frp_form.specs.declared.reading.Reading.{Reading}
 use Rattle.frp_form.proofs.PlacedExprs.{two_true}
 use Rattle.frp_form.proofs.ReadTypes.{Known, first, apart, formed, user_name, each, type_allowed, expr_allowed}

@@ -1,5 +1,5 @@
 -- Types and expressions of the grammar, of lawful tokens, are lawful.
-use Rattle.std.proofs.Common.{◌≡◌, ℕ, zero, suc, ◌<◌, ◌≤◌, Bool, true, false, List, [], ◌∷◌, ◌++◌, length, map, refl, sym, ap, ◌∙◌, subst, arith}
+use Rattle.std.proofs.Common.{◌≡◌, ℕ, zero, suc, ◌<◌, ◌≤◌, Bool, true, List, [], ◌∷◌, ◌++◌, length, map, refl, sym, ap, ◌∙◌, arith}
 use Rattle.std.specs.Prelude.{◌&&◌, not, nat_le, codes, ℤ, pos, negsuc}
 use Rattle.std.specs.List.{list_all}
 use Rattle.std.proofs.lemmas.List.{length-map}
@@ -37,7 +37,7 @@ use Rattle.frp_form.specs.Types.{raw_ty, atom_ty, unary_ty, binary_ty}
 use Rattle.frp_form.specs.Heads.{raw_at, unary_form, binary_form, ternary_form}
 use Rattle.frp_form.specs.Words.{unary_word, binary_word, ternary_word}
 use Rattle.frp_form.specs.Grammar.{left_at, right_at, name_at, name_of, IsUser, AreAll, none, more, TypeCase, atom, type_of_one, type_of_two, IsTypeOf, IsType, ExprCase, number, text, true_or_false, name, form_of_one, form_of_two, form_of_three, let_form, list_form, nil_form, close_form, IsExprOf, IsExpr}
-use Rattle.frp_form.specs.Lawful.{level, is_user, is_user_spot, ty_within, ty_within_step, expr_within, within_step, all_within, is_lawful_ty, is_lawful_expr}
+use Rattle.frp_form.specs.Lawful.{is_user_spot, ty_within, ty_within_step, expr_within, within_step, all_within, is_lawful_ty, is_lawful_expr}
 use Rattle.frp_form.proofs.Placed.{both_true}
 use Rattle.frp_form.proofs.PlacedTypes as types
 use Rattle.frp_form.proofs.PlacedExprs as exprs

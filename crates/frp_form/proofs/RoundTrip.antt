@@ -1,6 +1,5 @@
 -- A lawful file that is written is read again.
-use Rattle.std.proofs.Common.{◌≡◌, ℕ, List, Ok, Err, refl, sym, ap, ◌∙◌, subst}
-use Rattle.std.specs.Prelude.{IsTrue}
+use Rattle.std.proofs.Common.{◌≡◌, List, Ok, Err, refl, sym, ap, ◌∙◌}
 use Rattle.frp_lex.specs.declared.token.Token.{Token}
 use Rattle.frp_lex.specs.Gives.{Outcome}
 use Rattle.frp_lex.specs.Tokens.{tokens}
@@ -9,7 +8,6 @@ use Rattle.frp_graph.specs.declared.file.File.{File}
 use Rattle.frp_form.specs.Gives as form
 use Rattle.frp_form.specs.File.{file_of}
 use Rattle.frp_form.specs.Writing.{Kinds, joined, forms_of, canonical}
-use Rattle.frp_form.specs.Lawful.{is_lawful_file}
 use Rattle.frp_form.specs.Places.{unplaced}
 use Rattle.frp_form.specs.RoundTrip.{in_check, AreReadAs, WrittenIsRead, CanonicalIsRead, CanonicalTells, ReadIsLawful}
 use Rattle.frp_form.proofs.FileGrammar.{read_is_grammar_lem, grammar_is_read_lem}

@@ -1,8 +1,7 @@
 -- Shapes against the grammar.
-use Rattle.std.proofs.Common.{◌≡◌, ℕ, List, [], ◌∷◌, ◌++◌, Option, Some, None, Ok, Err, refl, sym, ap, ◌∙◌, subst}
+use Rattle.std.proofs.Common.{◌≡◌, ℕ, List, [], ◌∷◌, ◌++◌, None, Ok, refl, ap, ◌∙◌, subst}
 use Rattle.std.specs.Prelude.{codes}
 use Rattle.frp_expr.specs.declared.raw.Raw.{Raw}
-use Rattle.frp_expr.specs.declared.raw.Spot.{Spot}
 use Rattle.frp_lex.specs.declared.token.Token.{Token}
 use Rattle.frp_graph.specs.declared.file.Param.{Param}
 use Rattle.frp_graph.specs.declared.file.RawShape.{RawShape}
@@ -14,16 +13,15 @@ use Rattle.frp_form.specs.declared.shape_heads.JoinShape.{JoinShape}
 use Rattle.frp_form.specs.declared.shape_heads.FoldShape.{FoldShape}
 use Rattle.frp_form.specs.declared.shape_heads.ShapeHead.{ShapeHead}
 use Rattle.frp_form.specs.declared.shape_heads.ShapeHead.TheVariants as h
-use Rattle.frp_form.specs.Gives.{Outcome, ◌>>=◌}
+use Rattle.frp_form.specs.Gives.{Outcome}
 use Rattle.frp_form.specs.Tokens.{left, right, spot, two_names, head, after_right}
 use Rattle.frp_form.specs.Types.{whole_ty}
 use Rattle.frp_form.specs.Exprs.{whole_expr, kept_exprs}
 use Rattle.frp_form.specs.ShapeHeads.{shape_head}
 use Rattle.frp_form.specs.Shapes.{param, three_exprs, typed_at, unary_at, binary_at, map_at, join_at, fold_at, lift_at, execute_at, shape_parts, shape}
 use Rattle.frp_form.specs.Words.{typed_word, unary_shape_word, binary_shape_word, map_word, join_word, fold_word}
-use Rattle.frp_form.specs.Grammar.{left_at, right_at, name_at, name_of, IsUser, AreAll, IsType, IsExpr, IsParam, param_is, IsShape, typed, shape_of_one, shape_of_two, mapping, joining, folding, lifting, executing}
-use Rattle.frp_form.proofs.Steps.{ok_of, bind_ok, Begins, Sound, Complete, Splits, made, ends_with, both, and_one, one_and, inside, flat, flat₂, flat₃, flat₄, flat₅, left_sound, right_sound, spot_sound, spot_read, two_sound, two_read, BeginsWithHead, head_sound, head_read}
-use Rattle.frp_form.proofs.ItemLists.{Listed}
+use Rattle.frp_form.specs.Grammar.{left_at, right_at, name_at, name_of, IsExpr, IsParam, param_is, IsShape, typed, shape_of_one, shape_of_two, mapping, joining, folding, lifting, executing}
+use Rattle.frp_form.proofs.Steps.{ok_of, bind_ok, Begins, Sound, Complete, Splits, made, ends_with, both, and_one, one_and, inside, flat, flat₂, flat₃, flat₄, flat₅, left_sound, right_sound, spot_sound, spot_read, two_sound, two_read, head_sound, head_read}
 use Rattle.frp_form.proofs.HeadWords.{word_of_shape, shape_named, shape_known}
 use Rattle.frp_form.proofs.TypeGrammar.{type_sound, type_read}
 use Rattle.frp_form.proofs.ExprGrammar.{expr_sound, expr_read, right_ended, kept_sound, kept_read}

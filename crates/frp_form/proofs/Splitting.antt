@@ -1,10 +1,10 @@
 -- Tokens of given kinds are taken apart as the kinds are.
-use Rattle.std.proofs.Common.{◌≡◌, ℕ, List, [], ◌∷◌, ◌++◌, refl, sym, ap, ◌∙◌, subst}
+use Rattle.std.proofs.Common.{◌≡◌, ℕ, List, [], ◌∷◌, ◌++◌, refl, sym, ap, subst}
 use Rattle.frp_lex.specs.declared.token.Kind.{Kind}
 use Rattle.frp_lex.specs.declared.token.Kind.TheVariants as k
 use Rattle.frp_lex.specs.declared.token.Token.{Token}
 use Rattle.frp_lex.specs.Spelling.{kinds}
-use Rattle.frp_form.specs.Writing.{Kinds, parens, form}
+use Rattle.frp_form.specs.Writing.{Kinds, form}
 use Rattle.frp_form.specs.Grammar.{left_at, right_at, name_at}
 
 abbrev pub token : ℕ → Kind → Token

@@ -1,5 +1,5 @@
 -- Types against the grammar.
-use Rattle.std.proofs.Common.{◌≡◌, ℕ, zero, suc, List, [], ◌∷◌, ◌++◌, Option, Some, None, Ok, Err, refl, sym, ap, ◌∙◌}
+use Rattle.std.proofs.Common.{◌≡◌, ℕ, zero, suc, List, [], ◌∷◌, ◌++◌, Option, Some, None, Ok, refl, ap, ◌∙◌}
 use Rattle.frp_expr.specs.declared.raw.RawTy.{RawTy}
 use Rattle.frp_lex.specs.declared.token.Kind.{Kind}
 use Rattle.frp_lex.specs.declared.token.Kind.TheVariants as k
@@ -8,13 +8,13 @@ use Rattle.frp_form.specs.declared.ty_word.TyWord.{TyWord}
 use Rattle.frp_form.specs.declared.ty_word.TyWord.TheVariants as y
 use Rattle.frp_form.specs.declared.ty_word.UnaryTy.{UnaryTy}
 use Rattle.frp_form.specs.declared.ty_word.BinaryTy.{BinaryTy}
-use Rattle.frp_form.specs.Gives.{Outcome, Parser, ◌>>=◌}
+use Rattle.frp_form.specs.Gives.{Parser}
 use Rattle.frp_form.specs.Tokens.{right}
-use Rattle.frp_form.specs.Types.{ty_word, raw_ty, unary_ty, binary_ty, atom_ty, ty_parts, ty_form, ty_head, ty_atom, ty_by, ty_layer, ty_at, whole_ty}
+use Rattle.frp_form.specs.Types.{ty_word, ty_parts, ty_form, ty_head, ty_atom, ty_by, ty_layer, ty_at, whole_ty}
 use Rattle.frp_form.specs.Words.{atom_word, unary_ty_word, binary_ty_word}
 use Rattle.frp_form.specs.Grammar.{left_at, right_at, word_at, TypeCase, atom, type_of_one, type_of_two, IsTypeOf, IsType}
-use Rattle.frp_form.proofs.Steps.{Says, ok_of, bind_ok, Begins, Sound, Complete, made, ends_with, both, and_one, one, inside, flat, flat₂, right_sound}
-use Rattle.frp_form.proofs.HeadWords.{word_of_ty, ty_named, ty_known}
+use Rattle.frp_form.proofs.Steps.{bind_ok, Begins, Sound, Complete, made, ends_with, both, and_one, one, inside, flat, flat₂, right_sound}
+use Rattle.frp_form.proofs.HeadWords.{ty_named, ty_known}
 
 abbrev token : ℕ → Kind → Token
 token a kind = record { at = a; kind = kind }

@@ -1,5 +1,5 @@
 -- Declarations of the graph.
-use Rattle.std.specs.Prelude.{ℕ, if◌then◌else◌, List, codes, Option, Some, None, Ok, Err}
+use Rattle.std.specs.Prelude.{ℕ, if◌then◌else◌, List, codes, Option, Some, None, Ok}
 use Rattle.std.specs.Str.{bytes_eq}
 use Rattle.frp_lex.specs.declared.token.Token.{Token}
 use Rattle.frp_graph.specs.declared.file.Param.{Param}
@@ -12,7 +12,7 @@ use Rattle.frp_graph.specs.declared.file.Decl.TheVariants as d
 use Rattle.frp_form.specs.declared.item_heads.ItemHead.TheVariants as i
 use Rattle.frp_form.specs.declared.item_heads.DeclHead.{DeclHead}
 use Rattle.frp_form.specs.declared.item_heads.DeclHead.TheVariants as h
-use Rattle.frp_form.specs.Gives.{Outcome, Parser, ◌>>=◌}
+use Rattle.frp_form.specs.Gives.{Parser, ◌>>=◌}
 use Rattle.frp_form.specs.Tokens.{left, right, spot, head, opened, begins, after_right}
 use Rattle.frp_form.specs.Lists.{many}
 use Rattle.frp_form.specs.Exprs.{whole_expr}

@@ -1,5 +1,5 @@
 -- The file of a list of tokens, or its first fault.
-use Rattle.std.specs.Prelude.{ℕ, Bool, true, false, if◌then◌else◌, List, [], ◌∷◌, codes, Option, Some, None, Ok, Err}
+use Rattle.std.specs.Prelude.{ℕ, if◌then◌else◌, List, [], ◌∷◌, codes, Option, Some, None, Ok}
 use Rattle.frp_lex.specs.declared.token.Token.{Token}
 use Rattle.frp_graph.specs.declared.file.File.{File}
 use Rattle.frp_graph.specs.declared.file.Graph.{Graph}

@@ -13,16 +13,21 @@ use Rattle.frp_form.specs.declared.heads.Ternary.TheVariants as t
 use Rattle.frp_form.specs.declared.heads.Head.{Head}
 use Rattle.frp_form.specs.declared.heads.Head.TheVariants as h
 
--- what a head word of expressions means
-abbrev pub head_of : List ℕ → Option Head
-head_of w =
-    if bytes_eq w (codes "neg") then Some (h.Unary u.Neg)
-    else if bytes_eq w (codes "not") then Some (h.Unary u.Not)
-    else if bytes_eq w (codes "first") then Some (h.Unary u.First)
-    else if bytes_eq w (codes "second") then Some (h.Unary u.Second)
-    else if bytes_eq w (codes "len") then Some (h.Unary u.Len)
-    else if bytes_eq w (codes "show") then Some (h.Unary u.Show)
-    else if bytes_eq w (codes "add") then Some (h.Binary b.Add)
+-- what a head word of a form of three parts, or of other parts than expressions, means
+abbrev pub other_head : List ℕ → Option Head
+other_head w =
+    if bytes_eq w (codes "if") then Some (h.Ternary t.If)
+    else if bytes_eq w (codes "at") then Some (h.Ternary t.At)
+    else if bytes_eq w (codes "let") then Some h.Let
+    else if bytes_eq w (codes "list") then Some h.List
+    else if bytes_eq w (codes "nil") then Some h.Nil
+    else if bytes_eq w (codes "close") then Some h.Close
+    else None
+
+-- what a head word of a form of more than one part means
+abbrev pub binary_head : List ℕ → Option Head
+binary_head w =
+    if bytes_eq w (codes "add") then Some (h.Binary b.Add)
     else if bytes_eq w (codes "sub") then Some (h.Binary b.Sub)
     else if bytes_eq w (codes "mul") then Some (h.Binary b.Mul)
     else if bytes_eq w (codes "div") then Some (h.Binary b.Div)
@@ -34,13 +39,18 @@ head_of w =
     else if bytes_eq w (codes "pair") then Some (h.Binary b.Pair)
     else if bytes_eq w (codes "append") then Some (h.Binary b.Append)
     else if bytes_eq w (codes "cat") then Some (h.Binary b.Cat)
-    else if bytes_eq w (codes "if") then Some (h.Ternary t.If)
-    else if bytes_eq w (codes "at") then Some (h.Ternary t.At)
-    else if bytes_eq w (codes "let") then Some h.Let
-    else if bytes_eq w (codes "list") then Some h.List
-    else if bytes_eq w (codes "nil") then Some h.Nil
-    else if bytes_eq w (codes "close") then Some h.Close
-    else None
+    else other_head w
+
+-- what a head word of expressions means
+abbrev pub head_of : List ℕ → Option Head
+head_of w =
+    if bytes_eq w (codes "neg") then Some (h.Unary u.Neg)
+    else if bytes_eq w (codes "not") then Some (h.Unary u.Not)
+    else if bytes_eq w (codes "first") then Some (h.Unary u.First)
+    else if bytes_eq w (codes "second") then Some (h.Unary u.Second)
+    else if bytes_eq w (codes "len") then Some (h.Unary u.Len)
+    else if bytes_eq w (codes "show") then Some (h.Unary u.Show)
+    else binary_head w
 
 -- the forms of these heads over their parts
 

@@ -1,13 +1,12 @@
 -- Items and declarations.
-use Rattle.std.specs.Prelude.{ℕ, if◌then◌else◌, List, codes, length, Option, Some, None, Ok, Err}
+use Rattle.std.specs.Prelude.{ℕ, if◌then◌else◌, List, codes, Option, Some, None, Ok}
 use Rattle.std.specs.Str.{bytes_eq}
-use Rattle.frp_lex.specs.declared.token.Token.{Token}
 use Rattle.frp_graph.specs.declared.file.Item.{Item}
 use Rattle.frp_graph.specs.declared.file.ItemForm.{ItemForm}
 use Rattle.frp_graph.specs.declared.file.ItemForm.TheVariants as i
 use Rattle.frp_form.specs.declared.item_heads.ItemHead.{ItemHead}
 use Rattle.frp_form.specs.declared.item_heads.ItemHead.TheVariants as h
-use Rattle.frp_form.specs.Gives.{Outcome, Parser, ◌>>=◌}
+use Rattle.frp_form.specs.Gives.{Parser, ◌>>=◌}
 use Rattle.frp_form.specs.Tokens.{left, right, spot, head}
 use Rattle.frp_form.specs.Types.{whole_ty}
 use Rattle.frp_form.specs.Exprs.{whole_expr}

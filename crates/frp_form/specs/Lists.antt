@@ -5,7 +5,7 @@ use Rattle.frp_form.specs.declared.fault.FormFault.{FormFault}
 use Rattle.frp_form.specs.declared.fault.FormKind.TheVariants as kind
 use Rattle.frp_form.specs.declared.over.Over.{Over}
 use Rattle.frp_form.specs.declared.over.Over.TheVariants as o
-use Rattle.frp_form.specs.Gives.{Outcome, Parser, ◌>>=◌, fault}
+use Rattle.frp_form.specs.Gives.{Outcome, Parser, ◌>>=◌}
 use Rattle.frp_form.specs.Tokens.{unexpected, opened, extra}
 
 -- `ends` finds what stands behind a list where it ends, `over` is the fault of a list that goes on past its limit, and `item`

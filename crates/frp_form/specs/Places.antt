@@ -1,5 +1,5 @@
 -- Files without their places: each place is 0.
-use Rattle.std.specs.Prelude.{List, map}
+use Rattle.std.specs.Prelude.{map}
 use Rattle.frp_expr.specs.declared.raw.Spot.{Spot}
 use Rattle.frp_expr.specs.declared.raw.RawTy.{RawTy, fold-RawTy}
 use Rattle.frp_expr.specs.declared.raw.TyForm.{TyForm, roll-TyForm}

@@ -1,5 +1,5 @@
 -- The words that shapes begin with.
-use Rattle.std.specs.Prelude.{ℕ, Bool, true, false, if◌then◌else◌, List, codes, Option, Some, None}
+use Rattle.std.specs.Prelude.{ℕ, if◌then◌else◌, List, codes, Option, Some, None}
 use Rattle.std.specs.Str.{bytes_eq}
 use Rattle.frp_expr.specs.declared.raw.Raw.{Raw}
 use Rattle.frp_expr.specs.declared.raw.RawTy.{RawTy}
@@ -21,25 +21,10 @@ use Rattle.frp_form.specs.declared.shape_heads.FoldShape.TheVariants as d
 use Rattle.frp_form.specs.declared.shape_heads.ShapeHead.{ShapeHead}
 use Rattle.frp_form.specs.declared.shape_heads.ShapeHead.TheVariants as h
 
--- what a head word of shapes means
-abbrev pub shape_head : List ℕ → Option ShapeHead
-shape_head w =
-    if bytes_eq w (codes "never") then Some (h.Typed t.Never)
-    else if bytes_eq w (codes "loops") then Some (h.Typed t.Loops)
-    else if bytes_eq w (codes "loopc") then Some (h.Typed t.Loopc)
-    else if bytes_eq w (codes "constant") then Some (h.Unary u.Constant)
-    else if bytes_eq w (codes "split") then Some (h.Unary u.Split)
-    else if bytes_eq w (codes "updates") then Some (h.Unary u.Updates)
-    else if bytes_eq w (codes "value") then Some (h.Unary u.Value)
-    else if bytes_eq w (codes "switchs") then Some (h.Unary u.Switchs)
-    else if bytes_eq w (codes "switchc") then Some (h.Unary u.Switchc)
-    else if bytes_eq w (codes "once") then Some (h.Unary u.Once)
-    else if bytes_eq w (codes "defer") then Some (h.Unary u.Defer)
-    else if bytes_eq w (codes "hold") then Some (h.Binary b.Hold)
-    else if bytes_eq w (codes "apply") then Some (h.Binary b.Apply)
-    else if bytes_eq w (codes "orelse") then Some (h.Binary b.Orelse)
-    else if bytes_eq w (codes "gate") then Some (h.Binary b.Gate)
-    else if bytes_eq w (codes "map") then Some (h.Mapping m.Map)
+-- what a head word of a shape of an expression over values, or of a template, means
+abbrev pub other_shape_head : List ℕ → Option ShapeHead
+other_shape_head w =
+    if bytes_eq w (codes "map") then Some (h.Mapping m.Map)
     else if bytes_eq w (codes "mapc") then Some (h.Mapping m.Mapc)
     else if bytes_eq w (codes "filter") then Some (h.Mapping m.Filter)
     else if bytes_eq w (codes "merge") then Some (h.Joining j.Merge)
@@ -49,6 +34,36 @@ shape_head w =
     else if bytes_eq w (codes "lift2") then Some h.Lift2
     else if bytes_eq w (codes "execute") then Some h.Execute
     else None
+
+-- what a head word of a shape of two operands, or of an expression over values, means
+abbrev pub binary_shape_head : List ℕ → Option ShapeHead
+binary_shape_head w =
+    if bytes_eq w (codes "hold") then Some (h.Binary b.Hold)
+    else if bytes_eq w (codes "apply") then Some (h.Binary b.Apply)
+    else if bytes_eq w (codes "orelse") then Some (h.Binary b.Orelse)
+    else if bytes_eq w (codes "gate") then Some (h.Binary b.Gate)
+    else other_shape_head w
+
+-- what a head word of a shape of one operand or more means
+abbrev pub unary_shape_head : List ℕ → Option ShapeHead
+unary_shape_head w =
+    if bytes_eq w (codes "constant") then Some (h.Unary u.Constant)
+    else if bytes_eq w (codes "split") then Some (h.Unary u.Split)
+    else if bytes_eq w (codes "updates") then Some (h.Unary u.Updates)
+    else if bytes_eq w (codes "value") then Some (h.Unary u.Value)
+    else if bytes_eq w (codes "switchs") then Some (h.Unary u.Switchs)
+    else if bytes_eq w (codes "switchc") then Some (h.Unary u.Switchc)
+    else if bytes_eq w (codes "once") then Some (h.Unary u.Once)
+    else if bytes_eq w (codes "defer") then Some (h.Unary u.Defer)
+    else binary_shape_head w
+
+-- what a head word of shapes means
+abbrev pub shape_head : List ℕ → Option ShapeHead
+shape_head w =
+    if bytes_eq w (codes "never") then Some (h.Typed t.Never)
+    else if bytes_eq w (codes "loops") then Some (h.Typed t.Loops)
+    else if bytes_eq w (codes "loopc") then Some (h.Typed t.Loopc)
+    else unary_shape_head w
 
 -- the shapes of these heads over their parts
 

@@ -1,6 +1,5 @@
 -- Shapes.
-use Rattle.std.specs.Prelude.{ℕ, List, Ok, Err}
-use Rattle.frp_expr.specs.declared.raw.RawTy.{RawTy}
+use Rattle.std.specs.Prelude.{ℕ, Ok}
 use Rattle.frp_expr.specs.declared.raw.Raw.{Raw}
 use Rattle.frp_graph.specs.declared.file.Param.{Param}
 use Rattle.frp_graph.specs.declared.file.RawShape.{RawShape}
@@ -14,7 +13,7 @@ use Rattle.frp_form.specs.declared.shape_heads.JoinShape.{JoinShape}
 use Rattle.frp_form.specs.declared.shape_heads.FoldShape.{FoldShape}
 use Rattle.frp_form.specs.declared.shape_heads.ShapeHead.{ShapeHead}
 use Rattle.frp_form.specs.declared.shape_heads.ShapeHead.TheVariants as h
-use Rattle.frp_form.specs.Gives.{Outcome, Parser, ◌>>=◌}
+use Rattle.frp_form.specs.Gives.{Parser, ◌>>=◌}
 use Rattle.frp_form.specs.Tokens.{left, right, spot, two_names, head}
 use Rattle.frp_form.specs.Types.{whole_ty}
 use Rattle.frp_form.specs.Exprs.{whole_expr, kept_exprs}

@@ -1,5 +1,5 @@
 -- Steps over tokens. `end` is the length of the input, where it ends.
-use Rattle.std.specs.Prelude.{ℕ, Bool, true, false, ◌&&◌, ◌||◌, if◌then◌else◌, List, [], ◌∷◌, codes, Option, Some, None, Ok, Err}
+use Rattle.std.specs.Prelude.{ℕ, Bool, false, ◌&&◌, ◌||◌, if◌then◌else◌, List, [], ◌∷◌, codes, Option, Some, None, Ok, Err}
 use Rattle.std.specs.Str.{bytes_eq}
 use Rattle.frp_expr.specs.declared.raw.Spot.{Spot}
 use Rattle.frp_lex.specs.declared.token.Kind.{Kind}

@@ -69,7 +69,16 @@ pub fn head_of(word: &str) -> Option<Head>
         Some(Head::Unary(Unary::Len))
     } else if word == "show" {
         Some(Head::Unary(Unary::Show))
-    } else if word == "add" {
+    } else {
+        binary_head(word)
+    }
+}
+
+/// What a head word of a form of more than one part means.
+fn binary_head(word: &str) -> Option<Head>
+    ensures { result ≡ spec.binary_head word.now }
+{
+    if word == "add" {
         Some(Head::Binary(Binary::Add))
     } else if word == "sub" {
         Some(Head::Binary(Binary::Sub))
@@ -93,7 +102,16 @@ pub fn head_of(word: &str) -> Option<Head>
         Some(Head::Binary(Binary::Append))
     } else if word == "cat" {
         Some(Head::Binary(Binary::Cat))
-    } else if word == "if" {
+    } else {
+        other_head(word)
+    }
+}
+
+/// What a head word of a form of three parts, or of other parts than expressions, means.
+fn other_head(word: &str) -> Option<Head>
+    ensures { result ≡ spec.other_head word.now }
+{
+    if word == "if" {
         Some(Head::Ternary(Ternary::If))
     } else if word == "at" {
         Some(Head::Ternary(Ternary::At))

@@ -81,7 +81,16 @@ pub fn shape_head(word: &str) -> Option<ShapeHead>
         Some(ShapeHead::Typed(TyShape::Loops))
     } else if word == "loopc" {
         Some(ShapeHead::Typed(TyShape::Loopc))
-    } else if word == "constant" {
+    } else {
+        unary_shape_head(word)
+    }
+}
+
+/// What a head word of a shape of one operand or more means.
+fn unary_shape_head(word: &str) -> Option<ShapeHead>
+    ensures { result ≡ spec.unary_shape_head word.now }
+{
+    if word == "constant" {
         Some(ShapeHead::Unary(UnaryShape::Constant))
     } else if word == "split" {
         Some(ShapeHead::Unary(UnaryShape::Split))
@@ -97,7 +106,16 @@ pub fn shape_head(word: &str) -> Option<ShapeHead>
         Some(ShapeHead::Unary(UnaryShape::Once))
     } else if word == "defer" {
         Some(ShapeHead::Unary(UnaryShape::Defer))
-    } else if word == "hold" {
+    } else {
+        binary_shape_head(word)
+    }
+}
+
+/// What a head word of a shape of two operands, or of an expression over values, means.
+fn binary_shape_head(word: &str) -> Option<ShapeHead>
+    ensures { result ≡ spec.binary_shape_head word.now }
+{
+    if word == "hold" {
         Some(ShapeHead::Binary(BinaryShape::Hold))
     } else if word == "apply" {
         Some(ShapeHead::Binary(BinaryShape::Apply))
@@ -105,7 +123,16 @@ pub fn shape_head(word: &str) -> Option<ShapeHead>
         Some(ShapeHead::Binary(BinaryShape::Orelse))
     } else if word == "gate" {
         Some(ShapeHead::Binary(BinaryShape::Gate))
-    } else if word == "map" {
+    } else {
+        other_shape_head(word)
+    }
+}
+
+/// What a head word of a shape of an expression over values, or of a template, means.
+fn other_shape_head(word: &str) -> Option<ShapeHead>
+    ensures { result ≡ spec.other_shape_head word.now }
+{
+    if word == "map" {
         Some(ShapeHead::Mapping(MapShape::Map))
     } else if word == "mapc" {
         Some(ShapeHead::Mapping(MapShape::Mapc))
