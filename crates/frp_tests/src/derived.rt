@@ -1,6 +1,10 @@
 use crate::texts::read_text;
+use frp_base::{Memory, Text};
 use frp_form::write;
+use frp_graph::File;
 use frp_sugar::{core_stays, expand, expanded_is_core, expanded_is_lawful, senders_stay};
+use frp_type::{Label, check, is_core};
+use std::alloc::Global;
 use std::test::Fail;
 
 /// Files, and the core files that they stand for.
@@ -116,5 +120,87 @@ fn forms_stand_for_core_items(rt: HostRuntime) -> Result<(), Fail> {
     expanded_is_lawful();
     core_stays();
     senders_stay();
+    Ok(())
+}
+
+/// Files with derived forms, and the nodes of the core files that they stand for, each with its name and its type.
+const NODES: [(&str, &str); 10] = [
+    (
+        "(graph (cellsink s c Int 5))",
+        "#0 s (Stream Int), #1 c (Cell Int)",
+    ),
+    (
+        "(graph (sink a Int) (sink b Int) (let x (orelse a b)))",
+        "#0 a (Stream Int), #1 b (Stream Int), #2 x (Stream Int)",
+    ),
+    (
+        "(graph (sink s Int) (cellsink g c Bool true) (let x (gate s c)))",
+        "#0 s (Stream Int), #1 g (Stream Bool), #2 c (Cell Bool), #3 %0 (Stream (Pair Int Bool)), #4 %1 (Stream (Pair Int Bool)), #5 x (Stream Int)",
+    ),
+    (
+        "(graph (sink s Text) (let x (once s)))",
+        "#0 s (Stream Text), #1 %0 (Stream Bool), #2 %1 (Cell Bool), #3 %2 (Stream (Pair Text Bool)), #4 %3 (Stream (Pair Text Bool)), #5 x (Stream Text)",
+    ),
+    (
+        "(graph (sink s Text) (let x (accum Int n t s 0 (add t (len n)))))",
+        "#0 s (Stream Text), #1 %0 (Cell Int), #2 %1 (Stream Int), #3 x (Cell Int)",
+    ),
+    (
+        "(graph (sink s Int) (let x (collect Text n t s \"\" (pair (len t) (cat t (show n))))))",
+        "#0 s (Stream Int), #1 %0 (Cell Text), #2 %1 (Stream (Pair Int Text)), #3 %2 (Stream Text), #4 %3 (Cell Text), #5 x (Stream Int)",
+    ),
+    (
+        "(graph (cellsink s a Int 1) (cellsink t b Bool false) (let x (lift2 (y Int) (z Bool) a b (if z (show y) \"\"))))",
+        "#0 s (Stream Int), #1 a (Cell Int), #2 t (Stream Bool), #3 b (Cell Bool), #4 %0 (Cell (Fun Bool Text)), #5 x (Cell Text)",
+    ),
+    (
+        "(graph (sink s Int) (let x (defer s)))",
+        "#0 s (Stream Int), #1 %0 (Stream (List Int)), #2 x (Stream Int)",
+    ),
+    (
+        "(graph (sink a Int) (let o (once a)) (let d (defer o)) (let e (orelse d a)))",
+        "#0 a (Stream Int), #1 %0 (Stream Bool), #2 %1 (Cell Bool), #3 %2 (Stream (Pair Int Bool)), #4 %3 (Stream (Pair Int Bool)), #5 o (Stream Int), #6 %4 (Stream (List Int)), #7 d (Stream Int), #8 e (Stream Int)",
+    ),
+    (
+        "(graph (fun f ((k Int)) (a Int) (add k a)) (cellsink s a Int 1) (let x (lift2 (y Int) (z Int) a a (add y z))) (let m (mapc y x (close f y))) (let w (lift2 (y Int) (z Int) x a (lt y z))))",
+        "#0 s (Stream Int), #1 a (Cell Int), #2 %0 (Cell (Fun Int Int)), #3 x (Cell Int), #4 m (Cell (Fun Int Int)), #5 %1 (Cell (Fun Int Bool)), #6 w (Cell Bool)",
+    ),
+];
+
+/// The nodes of a file of core items, between commas.
+fn nodes_of(alloc: Global, file: &File) -> Result<Text, Memory> {
+    if !is_core(file) {
+        return Ok(Text::of(format!(in alloc; "no file of core items")?));
+    }
+    match check(alloc, file) {
+        Ok(typed) => show_nodes(alloc, typed.labels.as_slice()),
+        Err(_) => Ok(Text::of(format!(in alloc; "no program")?)),
+    }
+}
+
+/// The labels of nodes, between commas.
+fn show_nodes(alloc: Global, labels: &[Label]) -> Result<Text, Memory> {
+    let mut all = Text::new(alloc);
+    for (i, label) in labels.iter().enumerate() {
+        if i > 0 {
+            all.push_str(", ")?;
+        }
+        label.name.show(&mut all)?;
+        all.push_str(" ")?;
+        all.push_str(label.text.as_str())?;
+        all.push_str(" ")?;
+        label.ty.show(alloc, &mut all)?;
+    }
+    Ok(all)
+}
+
+#[test]
+fn hidden_items_are_nodes(rt: HostRuntime) -> Result<(), Fail> {
+    let alloc = rt.alloc();
+    for (text, nodes) in &NODES {
+        let file = read_text(alloc, text, false)??;
+        let found = nodes_of(alloc, &expand(alloc, &file)?)?;
+        assert_eq!(rt; found.as_str(), *nodes);
+    }
     Ok(())
 }
