@@ -1,5 +1,5 @@
 -- From the typing over the names in scope, with none bound, to what is answered.
-use Rattle.std.proofs.Common.{◌≡◌, Bool, true, List, [], ◌++◌, length, Option, Some, None, Result, Ok, Err, refl, sym, ap, ◌∙◌, subst}
+use Rattle.std.proofs.Common.{◌≡◌, true, List, [], ◌++◌, length, Ok, Err, sym, ap, ◌∙◌, subst}
 use Rattle.std.specs.Result.{result_ok}
 use Rattle.std.proofs.lemmas.List.{append-nil}
 use Rattle.frp_base.specs.declared.text.Text.{Text}

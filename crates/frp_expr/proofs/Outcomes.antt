@@ -1,16 +1,13 @@
 -- Outcomes, seen as the type that they have, or none.
-use Rattle.std.proofs.Common.{◌≡◌, ℕ, suc, Bool, true, false, List, [], ◌∷◌, length, Option, Some, None, Result, Ok, Err, refl, sym, ap, ◌∙◌, subst, arith}
-use Rattle.std.specs.Prelude.{◌&&◌, ◌==◌, if◌then◌else◌}
+use Rattle.std.proofs.Common.{◌≡◌, ℕ, Bool, true, false, List, Option, Some, None, Ok, Err, refl, ap, ◌∙◌}
+use Rattle.std.specs.Prelude.{◌&&◌}
 use Rattle.std.specs.Result.{result_ok}
-use Rattle.std.proofs.lemmas.Grind.{common_steps}
 use Rattle.frp_base.specs.declared.ty.Ty.{Ty}
-use Rattle.frp_base.specs.declared.ty.Ty.TheVariants as t
 use Rattle.frp_base.specs.Ty.{ty_eq}
-use Rattle.frp_expr.specs.Types.{given, is_plain}
-use Rattle.frp_expr.specs.Typing.{Kind, has, all_have, each_has}
-use Rattle.frp_expr.specs.Typing as typing
-use Rattle.frp_expr.specs.Scope.{Named, Fun}
-use Rattle.frp_expr.specs.Raw.{Outcome, ◌>>=◌, or_fault, Part, part_by, part_as, two_as, items_as, kept_as, close_of}
+use Rattle.frp_expr.specs.Types.{given}
+use Rattle.frp_expr.specs.Typing.{has}
+use Rattle.frp_expr.specs.Scope.{Named}
+use Rattle.frp_expr.specs.Raw.{Outcome, ◌>>=◌, or_fault, Part, part_by, part_as, two_as}
 use Rattle.frp_expr.specs.declared.fault.TypeKind.{TypeKind}
 use Rattle.frp_expr.specs.declared.fault.TypeKind.TheVariants as kind
 

@@ -1,11 +1,9 @@
 -- What a type is, from what is looked at in it.
-use Rattle.std.proofs.Common.{◌≡◌, Bool, true, false, List, Option, Some, None, refl, sym, ap, ◌∙◌, subst}
-use Rattle.std.specs.Prelude.{◌&&◌, if◌then◌else◌}
-use Rattle.frp_base.specs.declared.ty.Ty.{Ty, out-Ty, roll-Ty, out-roll-Ty, roll-out-Ty}
+use Rattle.std.proofs.Common.{◌≡◌, Bool, true, false, Option, Some, None, refl, sym, ap, ◌∙◌}
+use Rattle.frp_base.specs.declared.ty.Ty.{Ty, out-Ty, roll-Ty, roll-out-Ty}
 use Rattle.frp_base.specs.declared.ty.Ty.TheOpen.{Ty-F}
 use Rattle.frp_base.specs.declared.ty.Ty.TheOpen as u
 use Rattle.frp_base.specs.declared.ty.Ty.TheVariants as t
-use Rattle.frp_base.specs.Ty.{ty_eq}
 use Rattle.frp_base.proofs.TyLemmas.{ty_decides}
 use Rattle.frp_expr.specs.Types.{is_list_in, is_list, first_type_in, first_type, second_type_in, second_type, item_type_in, item_type, given}
 use Rattle.frp_expr.specs.Typing.{◌>>=◌, has}

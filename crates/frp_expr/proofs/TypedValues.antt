@@ -1,6 +1,6 @@
 -- An expression of a type has a value of its type.
-use Rattle.std.proofs.Common.{◌≡◌, ℕ, ◌≤◌, Bool, true, false, List, [], ◌∷◌, ◌++◌, length, map, take, Option, Some, None, refl, sym, ap, ◌∙◌, subst, arith}
-use Rattle.std.specs.Prelude.{◌&&◌, nat_le, slice_get, if◌then◌else◌}
+use Rattle.std.proofs.Common.{◌≡◌, ℕ, ◌≤◌, Bool, true, false, List, [], ◌∷◌, ◌++◌, length, map, take, Option, Some, refl, sym, ap, ◌∙◌, subst, arith}
+use Rattle.std.specs.Prelude.{◌&&◌, nat_le, if◌then◌else◌}
 use Rattle.std.proofs.lemmas.List.{length-map}
 use Rattle.std.proofs.lemmas.Grind.{common_steps}
 use Rattle.frp_base.specs.declared.name.Name.{Name}
@@ -10,8 +10,8 @@ use Rattle.frp_base.specs.declared.val.Val.{Val}
 use Rattle.frp_base.specs.declared.val.Val.TheVariants as v
 use Rattle.frp_expr.specs.Parts.{int_of, bool_of, text_of, items_of}
 use Rattle.frp_expr.specs.Operators.{most, appended}
-use Rattle.frp_expr.specs.Types.{given, is_list, is_comparable, first_type, second_type, item_type, has_length}
-use Rattle.frp_expr.specs.Typing.{Sig, Kind, ◌>>=◌, has, all_have, each_has, list_kind, type_step, type_in}
+use Rattle.frp_expr.specs.Types.{given, is_list, is_comparable}
+use Rattle.frp_expr.specs.Typing.{Sig, Kind, has, all_have, each_has, list_kind, type_step, type_in}
 use Rattle.frp_expr.specs.Eval.{Meaning, each_value, eval_step, eval}
 use Rattle.frp_expr.specs.Values.{is_of, are_of, each_of}
 use Rattle.frp_expr.specs.declared.expr.Expr.{Expr, roll-Expr}

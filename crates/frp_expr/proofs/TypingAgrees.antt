@@ -1,5 +1,5 @@
 -- The typing of a written expression, and the type of the expression that it stands for.
-use Rattle.std.proofs.Common.{◌≡◌, ℕ, suc, ◌+◌, ◌≤◌, Bool, true, false, List, [], ◌∷◌, ◌++◌, length, map, Option, Some, None, Result, Ok, Err, refl, sym, ap, ◌∙◌, subst, arith, inl, inr}
+use Rattle.std.proofs.Common.{◌≡◌, ℕ, suc, Bool, true, false, List, [], ◌∷◌, ◌++◌, length, map, Option, Some, None, Ok, Err, refl, sym, ap, ◌∙◌, subst, arith, inl, inr}
 use Rattle.std.specs.Prelude.{◌&&◌, ◌==◌, ◌⊎◌, nat_le, slice_get, option_map, if◌then◌else◌}
 use Rattle.std.specs.Result.{result_ok}
 use Rattle.std.specs.List.{list_all}
@@ -7,7 +7,7 @@ use Rattle.std.proofs.lemmas.List.{map-append, length-map}
 use Rattle.std.proofs.lemmas.Option.{slice_get-map}
 use Rattle.std.proofs.lemmas.Grind.{common_steps}
 use Rattle.frp_base.specs.declared.text.Text.{Text}
-use Rattle.frp_base.specs.declared.ty.Ty.{Ty, roll-Ty}
+use Rattle.frp_base.specs.declared.ty.Ty.{Ty}
 use Rattle.frp_base.specs.declared.ty.Ty.TheVariants as t
 use Rattle.frp_base.specs.declared.ty.Ty.TheOpen as u
 use Rattle.frp_base.specs.declared.ty.Ty.TheFolds.{fold-roll-Ty}
@@ -15,7 +15,7 @@ use Rattle.frp_expr.specs.Operators.{most}
 use Rattle.frp_expr.specs.Types.{given, is_plain, is_plain_step, is_list, is_comparable, first_type, second_type, item_type, has_length}
 use Rattle.frp_expr.specs.Typing.{Sig, Kind, has, all_have, each_has, list_kind, type_step, type_in}
 use Rattle.frp_expr.specs.Scope.{Named, Fun, number_of, names_of, types_of, fun_names, sigs_of}
-use Rattle.frp_expr.specs.Raw.{Outcome, ◌>>=◌, or_fault, Part, part_by, part_as, two_as, items_as, list_of, kept_as, close_of, closing, nil_type, item_by, TyPart, ty_part, ty_of, ty_of_step, written_step, FormTyping, typing_step, part_of, typing, Standing, each_resolved, resolve_step, resolve, is_lawful_step, is_lawful}
+use Rattle.frp_expr.specs.Raw.{Outcome, ◌>>=◌, or_fault, Part, part_as, items_as, list_of, kept_as, close_of, item_by, TyPart, ty_part, ty_of, ty_of_step, written_step, FormTyping, typing_step, part_of, typing, Standing, each_resolved, resolve_step, resolve, is_lawful_step, is_lawful}
 use Rattle.frp_expr.specs.declared.expr.Expr.{Expr, roll-Expr}
 use Rattle.frp_expr.specs.declared.expr.Expr.TheOpen.{Expr-F}
 use Rattle.frp_expr.specs.declared.expr.Expr.TheOpen as e
@@ -29,7 +29,7 @@ use Rattle.frp_expr.specs.declared.raw.Raw.{Raw, roll-Raw, fold-roll-Raw, map-Ra
 use Rattle.frp_expr.specs.declared.raw.RawForm.{RawForm, RawForm-F, roll-RawForm, fold-RawForm, fold-roll-RawForm, map-RawForm}
 use Rattle.frp_expr.specs.declared.raw.RawForm.TheOpen as o
 use Rattle.frp_expr.proofs.Tests.{both_true}
-use Rattle.frp_expr.proofs.Outcomes.{next, ok_bind, ok_or_fault, part_ok, as_ok, as_then, as_so, given_next, two_ok, first_then, guarded}
+use Rattle.frp_expr.proofs.Outcomes.{next, ok_bind, ok_or_fault, part_ok, as_ok, as_then, as_so, two_ok, first_then, guarded}
 
 -- Written types: one that is plain has no fault, and one that has a fault is not plain.
 abbrev Plainly : Outcome Ty → Ty → Type 0

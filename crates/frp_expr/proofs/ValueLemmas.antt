@@ -1,27 +1,24 @@
 -- Values of a type: how one is made of its parts, and what its parts are.
-use Rattle.std.proofs.Common.{◌≡◌, ℕ, suc, ◌+◌, ◌<◌, ◌≤◌, Bool, true, false, List, [], ◌∷◌, ◌++◌, length, map, take, Option, Some, None, refl, sym, ap, ◌∙◌, subst, arith, rules}
-use Rattle.std.specs.Prelude.{ℤ, pos, negsuc, zero, ◌&&◌, nat_le, slice_get, slice_index_or}
-use Rattle.std.specs.List.{list_all}
-use Rattle.std.proofs.lemmas.Grind.{common_steps}
+use Rattle.std.proofs.Common.{◌≡◌, ℕ, suc, Bool, true, List, [], ◌∷◌, ◌++◌, length, map, take, Option, Some, refl, sym, ◌∙◌, subst, rules}
+use Rattle.std.specs.Prelude.{ℤ, pos, negsuc, zero, nat_le, slice_get, slice_index_or}
 use Rattle.std.proofs.lemmas.List.{length-map}
 use Rattle.frp_base.specs.declared.name.Name.{Name}
 use Rattle.frp_base.specs.declared.ty.Ty.{Ty, out-Ty, roll-Ty, out-roll-Ty, roll-out-Ty}
 use Rattle.frp_base.specs.declared.ty.Ty.TheOpen.{Ty-F}
 use Rattle.frp_base.specs.declared.ty.Ty.TheOpen as u
 use Rattle.frp_base.specs.declared.ty.Ty.TheVariants as t
-use Rattle.frp_base.specs.declared.val.Val.{Val, out-Val, roll-Val, out-roll-Val, roll-out-Val}
+use Rattle.frp_base.specs.declared.val.Val.{Val, out-Val, roll-Val, roll-out-Val}
 use Rattle.frp_base.specs.declared.val.Val.TheOpen.{Val-F}
 use Rattle.frp_base.specs.declared.val.Val.TheOpen as o
 use Rattle.frp_base.specs.declared.val.Val.TheVariants as v
 use Rattle.frp_base.specs.declared.val.Val.TheFolds.{fold-roll-Val, map-Val}
-use Rattle.frp_base.specs.Ty.{ty_eq}
 use Rattle.frp_base.proofs.TyLemmas.{ty_decides}
 use Rattle.frp_expr.proofs.Tests.{both_true, true_both}
 use Rattle.frp_expr.specs.Parts.{len_in, len_of, int_in, int_of, first_in, second_in, items_in, text_in, first_of, second_of, items_of, text_of, zero_val}
-use Rattle.frp_expr.specs.Operators.{most, item_at, cut}
-use Rattle.frp_expr.specs.Types.{fits, is_text, is_printable}
+use Rattle.frp_expr.specs.Operators.{most, item_at}
+use Rattle.frp_expr.specs.Types.{fits, is_text}
 use Rattle.frp_expr.specs.Typing.{Sig}
-use Rattle.frp_expr.specs.Values.{is_of_step, is_of, are_of, all_of, each_of, is_closed_of}
+use Rattle.frp_expr.specs.Values.{is_of_step, is_of, are_of, all_of, each_of}
 
 module _ (node_type : Name → Option Ty) (sigs : List Sig) where
   abbrev pub Layer : Val-F Val → Ty → Ty-F Ty → Bool

@@ -1,6 +1,6 @@
 -- A value of a type among some nodes is one among more.
-use Rattle.std.proofs.Common.{◌≡◌, ℕ, Bool, true, false, List, [], ◌∷◌, length, map, Option, Some, None, refl, sym, ap, ◌∙◌, subst}
-use Rattle.std.specs.Prelude.{◌&&◌, nat_le, slice_get}
+use Rattle.std.proofs.Common.{◌≡◌, ℕ, Bool, true, List, [], ◌∷◌, length, map, Option, Some, None, refl, sym, ◌∙◌, subst}
+use Rattle.std.specs.Prelude.{nat_le, slice_get}
 use Rattle.std.proofs.lemmas.List.{length-map}
 use Rattle.frp_base.specs.declared.name.Name.{Name}
 use Rattle.frp_base.specs.declared.ty.Ty.{Ty, out-Ty}
@@ -14,7 +14,6 @@ use Rattle.frp_expr.specs.Operators.{most}
 use Rattle.frp_expr.specs.Typing.{Sig}
 use Rattle.frp_expr.specs.Values.{is_node_of, all_of, each_of, is_closed_of, is_of_step, is_of}
 use Rattle.frp_expr.proofs.Tests.{both_true, true_both}
-use Rattle.frp_expr.proofs.TypeLemmas.{has_some}
 
 module _ (few many : Name → Option Ty) (sigs : List Sig) (more : (n : Name) (y : Ty) → few n ≡ Some y → many n ≡ Some y) where
   abbrev Stays : Val → Type 0

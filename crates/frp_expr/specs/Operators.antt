@@ -1,5 +1,5 @@
 -- What the operators on numbers, lists and texts give.
-use Rattle.std.specs.Prelude.{ℕ, ℤ, pos, negsuc, neg_ℤ, nat_lt, int_div, int_rem, Bool, List, [], ◌++◌, take, slice_index_or, if◌then◌else◌}
+use Rattle.std.specs.Prelude.{ℕ, ℤ, pos, negsuc, neg_ℤ, nat_lt, int_div, int_rem, List, [], ◌++◌, take, slice_index_or, if◌then◌else◌}
 use Rattle.std.specs.Int.{int_wrap, w64}
 use Rattle.std.specs.Ordering.{int_eq}
 use Rattle.std.specs.List.{list_all}

@@ -4,7 +4,6 @@ use lib.Pointwise.{pointwise}
 use Rattle.frp_base.specs.declared.text.Text.{Text}
 use Rattle.frp_base.specs.declared.ty.Ty.{Ty}
 use Rattle.frp_expr.specs.Typing.{Sig}
-use Rattle.frp_expr.specs.declared.scope.Scope.{Scope}
 
 abbrev pub text_eq : Text → Text → Bool
 text_eq = pointwise ◌==◌

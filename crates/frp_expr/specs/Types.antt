@@ -4,9 +4,7 @@ use Rattle.std.specs.List.{list_all}
 use Rattle.frp_base.specs.declared.ty.Ty.{Ty, out-Ty}
 use Rattle.frp_base.specs.declared.ty.Ty.TheOpen.{Ty-F}
 use Rattle.frp_base.specs.declared.ty.Ty.TheOpen as o
-use Rattle.frp_base.specs.declared.ty.Ty.TheVariants as t
 use Rattle.frp_base.specs.declared.ty.Ty.TheFolds.{fold-Ty}
-use Rattle.frp_base.specs.Ty.{ty_eq}
 use Rattle.frp_expr.specs.Operators.{most}
 
 -- plain are Int, Bool, Text and pairs of plain types

@@ -1,5 +1,5 @@
 -- The type that an expression has over a list of types of its variables.
-use Rattle.std.specs.Prelude.{ℕ, nat_le, Bool, true, false, ◌&&◌, List, [], ◌∷◌, ◌++◌, length, Option, Some, None, slice_get}
+use Rattle.std.specs.Prelude.{nat_le, Bool, true, false, ◌&&◌, List, [], ◌∷◌, ◌++◌, length, Option, Some, None, slice_get}
 use Rattle.frp_base.specs.declared.ty.Ty.{Ty}
 use Rattle.frp_base.specs.declared.ty.Ty.TheVariants as t
 use Rattle.frp_base.specs.Ty.{ty_eq}
