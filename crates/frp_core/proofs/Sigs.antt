@@ -1,5 +1,5 @@
 -- The types of a program's functions, by number.
-use Rattle.std.proofs.Common.{◌≡◌, ℕ, suc, Bool, true, false, List, [], ◌∷◌, length, refl, ap, arith}
+use Rattle.std.proofs.Common.{◌≡◌, ℕ, suc, Bool, true, false, List, [], ◌∷◌, length, refl, ap}
 use Rattle.std.specs.Prelude.{◌&&◌, option_map, slice_get}
 use Rattle.std.proofs.lemmas.Option.{slice_get-map}
 use Rattle.frp_base.specs.declared.ty.Ty.{Ty}

@@ -1,10 +1,10 @@
 -- A core: its program, its history and its trace, which are legal together.
-use Rattle.std.specs.Prelude.{◌≡◌, ◌<◌, ℕ, List, [], ◌∷◌, ◌++◌, length, map, slice_get, IsTrue, IsSomeAnd, ⊤}
+use Rattle.std.specs.Prelude.{◌≡◌, ◌<◌, List, [], ◌∷◌, ◌++◌, length, map, slice_get, IsTrue, IsSomeAnd, ⊤}
 use Rattle.std.specs.List.{AllByRecursion}
 use Rattle.frp_base.specs.declared.time.Time.{Time}
 use Rattle.frp_graph.specs.declared.prog.Prog.{Prog}
 use Rattle.frp_graph.specs.declared.history.Reply.{Reply}
-use Rattle.frp_graph.specs.declared.history.Reply.TheVariants.{Joined, Given, Left}
+use Rattle.frp_graph.specs.declared.history.Reply.TheVariants.{Joined, Given}
 use Rattle.frp_graph.specs.declared.history.Entry.{Entry}
 use Rattle.frp_graph.specs.Trace.{live}
 use Rattle.frp_graph.specs.Moments.{build}

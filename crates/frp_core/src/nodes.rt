@@ -111,14 +111,14 @@ fn node_shape(alloc: Global, refs: &[Val], shape: &LineShape) -> Result<Shape, M
         LineShape::Never => Ok(Shape::Never),
         LineShape::Map { f, s } => Ok(Shape::Map {
             f: lam(alloc, refs, f)?,
-            s: operand(alloc, refs, s)?,
+            s: operand(alloc, refs, s.get())?,
         }),
         LineShape::Filter { f, s } => Ok(Shape::Filter {
             f: lam(alloc, refs, f)?,
-            s: operand(alloc, refs, s)?,
+            s: operand(alloc, refs, s.get())?,
         }),
         LineShape::Hold { s, .. } => Ok(Shape::Hold {
-            s: operand(alloc, refs, s)?,
+            s: operand(alloc, refs, s.get())?,
         }),
         _ => unreachable!(),
     }
@@ -129,8 +129,8 @@ fn first_value(alloc: Global, refs: &[Val], shape: &LineShape) -> Result<Option<
     ensures { IfOk result (λ first. first ≡ given_by refs.now shape.now) }
 {
     match shape {
-        LineShape::Constant { o } => Ok(Some(eval(alloc, o, refs)?)),
-        LineShape::Hold { o, .. } => Ok(Some(eval(alloc, o, refs)?)),
+        LineShape::Constant { o } => Ok(Some(eval(alloc, o.get(), refs)?)),
+        LineShape::Hold { o, .. } => Ok(Some(eval(alloc, o.get(), refs)?)),
         _ => Ok(None),
     }
 }

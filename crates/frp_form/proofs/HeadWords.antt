@@ -10,11 +10,8 @@ use Rattle.frp_form.specs.declared.ty_word.UnaryTy.TheVariants as theUnaryTy
 use Rattle.frp_form.specs.declared.ty_word.BinaryTy.TheVariants as theBinaryTy
 use Rattle.frp_form.specs.declared.heads.Head.{Head}
 use Rattle.frp_form.specs.declared.heads.Head.TheVariants as theHead
-use Rattle.frp_form.specs.declared.heads.Unary.{Unary}
 use Rattle.frp_form.specs.declared.heads.Unary.TheVariants as theUnary
-use Rattle.frp_form.specs.declared.heads.Binary.{Binary}
 use Rattle.frp_form.specs.declared.heads.Binary.TheVariants as theBinary
-use Rattle.frp_form.specs.declared.heads.Ternary.{Ternary}
 use Rattle.frp_form.specs.declared.heads.Ternary.TheVariants as theTernary
 use Rattle.frp_form.specs.declared.shape_heads.ShapeHead.{ShapeHead}
 use Rattle.frp_form.specs.declared.shape_heads.ShapeHead.TheVariants as theShapeHead

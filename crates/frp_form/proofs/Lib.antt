@@ -12,17 +12,3 @@ pub mod LawfulExprs
 pub mod LawfulReading
 pub mod Lengths
 pub mod Counts
-pub mod Splitting
-pub mod Placed
-pub mod PlacedTypes
-pub mod PlacedExprs
-pub mod PlacedShapes
-pub mod PlacedDecls
-pub mod PlacedFile
-pub mod Lines
-pub mod LawfulTokens
-pub mod LevelLemmas
-pub mod StepLemmas
-pub mod ReadTypes
-pub mod ReadFiles
-pub mod RoundTrip

@@ -3,7 +3,6 @@ use Rattle.std.specs.Prelude.{ℕ, if◌then◌else◌, List, codes, Option, Som
 use Rattle.std.specs.Str.{bytes_eq}
 use Rattle.frp_lex.specs.declared.token.Token.{Token}
 use Rattle.frp_graph.specs.declared.file.Param.{Param}
-use Rattle.frp_graph.specs.declared.file.Item.{Item}
 use Rattle.frp_graph.specs.declared.file.Give.{Give}
 use Rattle.frp_graph.specs.declared.file.Template.{Template}
 use Rattle.frp_graph.specs.declared.file.Function.{Function}

@@ -1,5 +1,5 @@
 -- The words that forms of expressions begin with.
-use Rattle.std.specs.Prelude.{ℕ, Bool, true, false, if◌then◌else◌, List, codes, Option, Some, None}
+use Rattle.std.specs.Prelude.{ℕ, true, false, if◌then◌else◌, List, codes, Option, Some, None}
 use Rattle.std.specs.Str.{bytes_eq}
 use Rattle.frp_expr.specs.declared.raw.Raw.{Raw, roll-Raw}
 use Rattle.frp_expr.specs.declared.raw.RawForm.{RawForm}

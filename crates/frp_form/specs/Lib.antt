@@ -13,7 +13,3 @@ pub mod Words
 pub mod Grammar
 pub mod Laws
 pub mod LawfulReading
-pub mod Writing
-pub mod Lawful
-pub mod Places
-pub mod RoundTrip

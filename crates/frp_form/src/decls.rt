@@ -12,7 +12,7 @@ use crate::fault::FormStop;
 use crate::item_heads::{DeclHead, decl_head};
 use crate::items::{body_item, item_parts};
 use crate::lists::{Rule, many};
-use crate::shapes::param;
+use crate::shapes::{boxed_param, param};
 use crate::tokens::{after_right, begins, left, opened, right, spot, unexpected};
 use frp_base::{Boxed, Seq};
 use frp_graph::{Decl, Function, Give, Item, Param, Template};
@@ -81,10 +81,7 @@ fn give(alloc: Global, end: u64, tokens: &[Token]) -> Result<(Boxed<Give>, &[Tok
     let (at, rest) = opened(end, "give", tokens)?;
     let (e, rest) = whole_expr(alloc, end, rest)?;
     let rest = right(end, rest)?;
-    let give = Give {
-        at,
-        e: e.into_inner(),
-    };
+    let give = Give { at, e };
     Ok((Boxed::new(alloc, give)?, rest))
 }
 
@@ -99,7 +96,7 @@ fn template(
     ensures { Gives (λ x. (x.0, x.1.now)) result (spec.template_at end at tokens.now) }
 {
     let (name, rest) = spot(end, tokens)?;
-    let (param, rest) = param(alloc, end, rest)?;
+    let (param, rest) = boxed_param(alloc, end, rest)?;
     let (kept, rest) = params(alloc, end, rest)?;
     let (items, rest) = many(alloc, end, rest)?;
     let (give, rest) = give(alloc, end, rest)?;
@@ -110,7 +107,7 @@ fn template(
         param,
         kept,
         items,
-        give: give.into_inner(),
+        give,
     };
     Ok((template, rest))
 }
@@ -127,7 +124,7 @@ fn function(
 {
     let (name, rest) = spot(end, tokens)?;
     let (kept, rest) = params(alloc, end, rest)?;
-    let (arg, rest) = param(alloc, end, rest)?;
+    let (arg, rest) = boxed_param(alloc, end, rest)?;
     let (e, rest) = whole_expr(alloc, end, rest)?;
     let rest = right(end, rest)?;
     let function = Function {
@@ -135,7 +132,7 @@ fn function(
         name,
         kept,
         arg,
-        e: e.into_inner(),
+        e,
     };
     Ok((function, rest))
 }

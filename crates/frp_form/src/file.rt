@@ -134,11 +134,7 @@ fn send(alloc: Global, end: u64, tokens: &[Token]) -> Result<(RawSend, &[Token])
     let (name, rest) = spot(end, rest)?;
     let (value, rest) = whole_expr(alloc, end, rest)?;
     let rest = right(end, rest)?;
-    let send = RawSend {
-        at,
-        name,
-        value: value.into_inner(),
-    };
+    let send = RawSend { at, name, value };
     Ok((send, rest))
 }
 

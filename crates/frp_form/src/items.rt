@@ -24,10 +24,7 @@ fn sink(alloc: Global, end: u64, at: u64, tokens: &[Token]) -> Result<(Item, &[T
     let (name, rest) = spot(end, tokens)?;
     let (ty, rest) = whole_ty(alloc, end, rest)?;
     let rest = right(end, rest)?;
-    let form = ItemForm::Sink {
-        name,
-        ty: ty.into_inner(),
-    };
+    let form = ItemForm::Sink { name, ty };
     Ok((Item { at, form }, rest))
 }
 
@@ -49,8 +46,8 @@ fn cellsink(
     let form = ItemForm::Cellsink {
         sink,
         cell,
-        ty: ty.into_inner(),
-        first: first.into_inner(),
+        ty,
+        first,
     };
     Ok((Item { at, form }, rest))
 }
@@ -68,10 +65,7 @@ fn let_item(
     let (name, rest) = spot(end, tokens)?;
     let (shape, rest) = shape(alloc, end, rest)?;
     let rest = right(end, rest)?;
-    let form = ItemForm::Let {
-        name,
-        shape: shape.into_inner(),
-    };
+    let form = ItemForm::Let { name, shape };
     Ok((Item { at, form }, rest))
 }
 
@@ -95,10 +89,7 @@ fn get(alloc: Global, end: u64, at: u64, tokens: &[Token]) -> Result<(Item, &[To
     let (name, rest) = spot(end, tokens)?;
     let (cell, rest) = whole_expr(alloc, end, rest)?;
     let rest = right(end, rest)?;
-    let form = ItemForm::Get {
-        name,
-        cell: cell.into_inner(),
-    };
+    let form = ItemForm::Get { name, cell };
     Ok((Item { at, form }, rest))
 }
 

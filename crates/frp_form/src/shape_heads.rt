@@ -3,6 +3,7 @@
 ghost use Rattle.std.specs.Prelude.{◌≡◌};
 ghost use Rattle.frp_form.specs.ShapeHeads as spec;
 
+use frp_base::Boxed;
 use frp_expr::{Raw, RawTy, Spot};
 use frp_graph::ShapeForm;
 
@@ -156,7 +157,7 @@ fn other_shape_head(word: &str) -> Option<ShapeHead>
 }
 
 /// The shape of this head and these parts.
-pub fn typed_shape(op: TyShape, ty: RawTy) -> ShapeForm
+pub fn typed_shape(op: TyShape, ty: Boxed<RawTy>) -> ShapeForm
     ensures { result ≡ spec.typed_shape op ty }
 {
     match op {
@@ -167,7 +168,7 @@ pub fn typed_shape(op: TyShape, ty: RawTy) -> ShapeForm
 }
 
 /// The shape of this head and these parts.
-pub fn unary_shape(op: UnaryShape, a: Raw) -> ShapeForm
+pub fn unary_shape(op: UnaryShape, a: Boxed<Raw>) -> ShapeForm
     ensures { result ≡ spec.unary_shape op a }
 {
     match op {
@@ -183,7 +184,7 @@ pub fn unary_shape(op: UnaryShape, a: Raw) -> ShapeForm
 }
 
 /// The shape of this head and these parts.
-pub fn binary_shape(op: BinaryShape, a: Raw, b: Raw) -> ShapeForm
+pub fn binary_shape(op: BinaryShape, a: Boxed<Raw>, b: Boxed<Raw>) -> ShapeForm
     ensures { result ≡ spec.binary_shape op a b }
 {
     match op {
@@ -195,7 +196,7 @@ pub fn binary_shape(op: BinaryShape, a: Raw, b: Raw) -> ShapeForm
 }
 
 /// The shape of this head and these parts.
-pub fn map_shape(op: MapShape, x: Spot, a: Raw, e: Raw) -> ShapeForm
+pub fn map_shape(op: MapShape, x: Spot, a: Boxed<Raw>, e: Boxed<Raw>) -> ShapeForm
     ensures { result ≡ spec.map_shape op x a e }
 {
     match op {
@@ -206,7 +207,14 @@ pub fn map_shape(op: MapShape, x: Spot, a: Raw, e: Raw) -> ShapeForm
 }
 
 /// The shape of this head and these parts.
-pub fn join_shape(op: JoinShape, x: Spot, y: Spot, a: Raw, b: Raw, e: Raw) -> ShapeForm
+pub fn join_shape(
+    op: JoinShape,
+    x: Spot,
+    y: Spot,
+    a: Boxed<Raw>,
+    b: Boxed<Raw>,
+    e: Boxed<Raw>,
+) -> ShapeForm
     ensures { result ≡ spec.join_shape op x y a b e }
 {
     match op {
@@ -222,7 +230,15 @@ pub fn join_shape(op: JoinShape, x: Spot, y: Spot, a: Raw, b: Raw, e: Raw) -> Sh
 }
 
 /// The shape of this head and these parts.
-pub fn fold_shape(op: FoldShape, ty: RawTy, x: Spot, y: Spot, s: Raw, o: Raw, e: Raw) -> ShapeForm
+pub fn fold_shape(
+    op: FoldShape,
+    ty: Boxed<RawTy>,
+    x: Spot,
+    y: Spot,
+    s: Boxed<Raw>,
+    o: Boxed<Raw>,
+    e: Boxed<Raw>,
+) -> ShapeForm
     ensures { result ≡ spec.fold_shape op ty x y s o e }
 {
     match op {

@@ -29,8 +29,20 @@ pub fn param(alloc: Global, end: u64, tokens: &[Token]) -> Result<(Param, &[Toke
     let (name, rest) = spot(end, rest)?;
     let (ty, rest) = whole_ty(alloc, end, rest)?;
     let rest = right(end, rest)?;
-    let ty = ty.into_inner();
     Ok((Param { at, name, ty }, rest))
+}
+
+/// A name and its type, at a place of its own.
+#[tactic(auto, unfolding(crate::specs::Shapes::param))]
+pub fn boxed_param(
+    alloc: Global,
+    end: u64,
+    tokens: &[Token],
+) -> Result<(Boxed<Param>, &[Token]), FormStop>
+    ensures { Gives (λ x. (x.0, x.1.now)) result (spec.param end tokens.now) }
+{
+    let (p, rest) = param(alloc, end, tokens)?;
+    Ok((Boxed::new(alloc, p)?, rest))
 }
 
 /// A shape at its place.
@@ -53,7 +65,7 @@ fn typed(
 {
     let (ty, rest) = whole_ty(alloc, end, tokens)?;
     let rest = right(end, rest)?;
-    let form = typed_shape(op, ty.into_inner());
+    let form = typed_shape(op, ty);
     Ok((shape_at(alloc, at, form)?, rest))
 }
 
@@ -70,7 +82,7 @@ fn unary(
 {
     let (a, rest) = whole_expr(alloc, end, tokens)?;
     let rest = right(end, rest)?;
-    let form = unary_shape(op, a.into_inner());
+    let form = unary_shape(op, a);
     Ok((shape_at(alloc, at, form)?, rest))
 }
 
@@ -88,7 +100,7 @@ fn binary(
     let (a, rest) = whole_expr(alloc, end, tokens)?;
     let (b, rest) = whole_expr(alloc, end, rest)?;
     let rest = right(end, rest)?;
-    let form = binary_shape(op, a.into_inner(), b.into_inner());
+    let form = binary_shape(op, a, b);
     Ok((shape_at(alloc, at, form)?, rest))
 }
 
@@ -107,7 +119,7 @@ fn mapping(
     let (a, rest) = whole_expr(alloc, end, rest)?;
     let (e, rest) = whole_expr(alloc, end, rest)?;
     let rest = right(end, rest)?;
-    let form = map_shape(op, x, a.into_inner(), e.into_inner());
+    let form = map_shape(op, x, a, e);
     Ok((shape_at(alloc, at, form)?, rest))
 }
 
@@ -140,7 +152,7 @@ fn joining(
     let ((x, y), rest) = two_names(end, tokens)?;
     let ((a, b, e), rest) = three_exprs(alloc, end, rest)?;
     let rest = right(end, rest)?;
-    let form = join_shape(op, x, y, a.into_inner(), b.into_inner(), e.into_inner());
+    let form = join_shape(op, x, y, a, b, e);
     Ok((shape_at(alloc, at, form)?, rest))
 }
 
@@ -159,8 +171,7 @@ fn folding(
     let ((x, y), rest) = two_names(end, rest)?;
     let ((s, o, e), rest) = three_exprs(alloc, end, rest)?;
     let rest = right(end, rest)?;
-    let ty = ty.into_inner();
-    let form = fold_shape(op, ty, x, y, s.into_inner(), o.into_inner(), e.into_inner());
+    let form = fold_shape(op, ty, x, y, s, o, e);
     Ok((shape_at(alloc, at, form)?, rest))
 }
 
@@ -174,17 +185,11 @@ fn lift(
 ) -> Result<(Boxed<RawShape>, &[Token]), FormStop>
     ensures { Gives (λ x. (x.0, x.1.now)) result (spec.lift_at end at tokens.now) }
 {
-    let (x, rest) = param(alloc, end, tokens)?;
-    let (y, rest) = param(alloc, end, rest)?;
+    let (x, rest) = boxed_param(alloc, end, tokens)?;
+    let (y, rest) = boxed_param(alloc, end, rest)?;
     let ((ca, cb, e), rest) = three_exprs(alloc, end, rest)?;
     let rest = right(end, rest)?;
-    let form = ShapeForm::Lift2 {
-        x,
-        y,
-        ca: ca.into_inner(),
-        cb: cb.into_inner(),
-        e: e.into_inner(),
-    };
+    let form = ShapeForm::Lift2 { x, y, ca, cb, e };
     Ok((shape_at(alloc, at, form)?, rest))
 }
 
@@ -201,11 +206,7 @@ fn execute(
     let (s, rest) = whole_expr(alloc, end, tokens)?;
     let (template, rest) = spot(end, rest)?;
     let (kept, rest) = kept_exprs(alloc, end, rest)?;
-    let form = ShapeForm::Execute {
-        s: s.into_inner(),
-        template,
-        kept,
-    };
+    let form = ShapeForm::Execute { s, template, kept };
     Ok((shape_at(alloc, at, form)?, rest))
 }
 

@@ -1,7 +1,7 @@
 //! A file as it is read: a struct for each rule of the grammar, a variant for each alternative, and beside each name, type
 //! and form the place of its first byte in the input, from 0.
 
-use frp_base::Seq;
+use frp_base::{Boxed, Seq};
 use frp_expr::{Raw, RawTy, Spot};
 
 /// A file: its graph, its listens and its senders, in order.
@@ -32,10 +32,10 @@ pub enum Decl {
 pub struct Template {
     pub at: u64,
     pub name: Spot,
-    pub param: Param,
+    pub param: Boxed<Param>,
     pub kept: Seq<Param>,
     pub items: Seq<Item>,
-    pub give: Give,
+    pub give: Boxed<Give>,
 }
 
 /// A function: its name, its kept names, its argument, and its expression over them.
@@ -44,8 +44,8 @@ pub struct Function {
     pub at: u64,
     pub name: Spot,
     pub kept: Seq<Param>,
-    pub arg: Param,
-    pub e: Raw,
+    pub arg: Boxed<Param>,
+    pub e: Boxed<Raw>,
 }
 
 /// A name with its type.
@@ -53,14 +53,14 @@ pub struct Function {
 pub struct Param {
     pub at: u64,
     pub name: Spot,
-    pub ty: RawTy,
+    pub ty: Boxed<RawTy>,
 }
 
 /// What an instance of a template gives.
 #[derive(Drop)]
 pub struct Give {
     pub at: u64,
-    pub e: Raw,
+    pub e: Boxed<Raw>,
 }
 
 /// An item of a body. That of the graph has no `Get`; that of a template has no `Sink` and no `Cellsink`.
@@ -76,17 +76,17 @@ pub struct Item {
 pub enum ItemForm {
     Sink {
         name: Spot,
-        ty: RawTy,
+        ty: Boxed<RawTy>,
     },
     Cellsink {
         sink: Spot,
         cell: Spot,
-        ty: RawTy,
-        first: Raw,
+        ty: Boxed<RawTy>,
+        first: Boxed<Raw>,
     },
     Let {
         name: Spot,
-        shape: RawShape,
+        shape: Boxed<RawShape>,
     },
     Tie {
         from: Spot,
@@ -94,7 +94,7 @@ pub enum ItemForm {
     },
     Get {
         name: Spot,
-        cell: Raw,
+        cell: Boxed<Raw>,
     },
 }
 
@@ -110,112 +110,112 @@ pub struct RawShape {
 #[derive(Drop)]
 pub enum ShapeForm {
     Never {
-        ty: RawTy,
+        ty: Boxed<RawTy>,
     },
     Constant {
-        o: Raw,
+        o: Boxed<Raw>,
     },
     Map {
         x: Spot,
-        s: Raw,
-        e: Raw,
+        s: Boxed<Raw>,
+        e: Boxed<Raw>,
     },
     Mapc {
         x: Spot,
-        c: Raw,
-        e: Raw,
+        c: Boxed<Raw>,
+        e: Boxed<Raw>,
     },
     Filter {
         x: Spot,
-        s: Raw,
-        e: Raw,
+        s: Boxed<Raw>,
+        e: Boxed<Raw>,
     },
     Merge {
         x: Spot,
         y: Spot,
-        a: Raw,
-        b: Raw,
-        e: Raw,
+        a: Boxed<Raw>,
+        b: Boxed<Raw>,
+        e: Boxed<Raw>,
     },
     Snapshot {
         x: Spot,
         y: Spot,
-        s: Raw,
-        c: Raw,
-        e: Raw,
+        s: Boxed<Raw>,
+        c: Boxed<Raw>,
+        e: Boxed<Raw>,
     },
     Split {
-        s: Raw,
+        s: Boxed<Raw>,
     },
     Updates {
-        c: Raw,
+        c: Boxed<Raw>,
     },
     Value {
-        c: Raw,
+        c: Boxed<Raw>,
     },
     Loops {
-        ty: RawTy,
+        ty: Boxed<RawTy>,
     },
     Loopc {
-        ty: RawTy,
+        ty: Boxed<RawTy>,
     },
     Hold {
-        o: Raw,
-        s: Raw,
+        o: Boxed<Raw>,
+        s: Boxed<Raw>,
     },
     Apply {
-        cf: Raw,
-        ca: Raw,
+        cf: Boxed<Raw>,
+        ca: Boxed<Raw>,
     },
     Switchs {
-        c: Raw,
+        c: Boxed<Raw>,
     },
     Switchc {
-        c: Raw,
+        c: Boxed<Raw>,
     },
     Execute {
-        s: Raw,
+        s: Boxed<Raw>,
         template: Spot,
         kept: Seq<Raw>,
     },
     Orelse {
-        a: Raw,
-        b: Raw,
+        a: Boxed<Raw>,
+        b: Boxed<Raw>,
     },
     Gate {
-        s: Raw,
-        c: Raw,
+        s: Boxed<Raw>,
+        c: Boxed<Raw>,
     },
     Once {
-        s: Raw,
+        s: Boxed<Raw>,
     },
     /// `x` is the occurrence and `y` the state.
     Accum {
-        ty: RawTy,
+        ty: Boxed<RawTy>,
         x: Spot,
         y: Spot,
-        s: Raw,
-        o: Raw,
-        e: Raw,
+        s: Boxed<Raw>,
+        o: Boxed<Raw>,
+        e: Boxed<Raw>,
     },
     /// `x` is the occurrence and `y` the state.
     Collect {
-        ty: RawTy,
+        ty: Boxed<RawTy>,
         x: Spot,
         y: Spot,
-        s: Raw,
-        o: Raw,
-        e: Raw,
+        s: Boxed<Raw>,
+        o: Boxed<Raw>,
+        e: Boxed<Raw>,
     },
     Lift2 {
-        x: Param,
-        y: Param,
-        ca: Raw,
-        cb: Raw,
-        e: Raw,
+        x: Boxed<Param>,
+        y: Boxed<Param>,
+        ca: Boxed<Raw>,
+        cb: Boxed<Raw>,
+        e: Boxed<Raw>,
     },
     Defer {
-        s: Raw,
+        s: Boxed<Raw>,
     },
 }
 
@@ -238,5 +238,5 @@ pub struct Sender {
 pub struct RawSend {
     pub at: u64,
     pub name: Spot,
-    pub value: Raw,
+    pub value: Boxed<Raw>,
 }

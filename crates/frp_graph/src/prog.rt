@@ -1,4 +1,4 @@
-use frp_base::{Seq, Ty};
+use frp_base::{Boxed, Seq, Ty};
 use frp_expr::Expr;
 
 /// A declared function: the types of its kept values, of its argument and of its result, and its expression over the
@@ -34,7 +34,7 @@ pub struct Body {
 #[derive(Drop)]
 pub enum Line3 {
     Node { ty: Ty, shape: LineShape },
-    Get { c: Expr },
+    Get { c: Boxed<Expr> },
 }
 
 /// An expression of the program, by its number from 0, over these values of the body, by their positions from 0, followed
@@ -52,58 +52,58 @@ pub enum LineShape {
     Sink,
     Never,
     Constant {
-        o: Expr,
+        o: Boxed<Expr>,
     },
     Map {
         f: LineLam,
-        s: Expr,
+        s: Boxed<Expr>,
     },
     Filter {
         f: LineLam,
-        s: Expr,
+        s: Boxed<Expr>,
     },
     Merge {
         f: LineLam,
-        a: Expr,
-        b: Expr,
+        a: Boxed<Expr>,
+        b: Boxed<Expr>,
     },
     Snapshot {
         f: LineLam,
-        s: Expr,
-        c: Expr,
+        s: Boxed<Expr>,
+        c: Boxed<Expr>,
     },
     Split {
-        s: Expr,
+        s: Boxed<Expr>,
     },
     Updates {
-        c: Expr,
+        c: Boxed<Expr>,
     },
     Value {
-        c: Expr,
+        c: Boxed<Expr>,
     },
     Loop {
         to: u64,
     },
     Hold {
-        o: Expr,
-        s: Expr,
+        o: Boxed<Expr>,
+        s: Boxed<Expr>,
     },
     Mapc {
         f: LineLam,
-        c: Expr,
+        c: Boxed<Expr>,
     },
     Apply {
-        cf: Expr,
-        ca: Expr,
+        cf: Boxed<Expr>,
+        ca: Boxed<Expr>,
     },
     Switchs {
-        c: Expr,
+        c: Boxed<Expr>,
     },
     Switchc {
-        c: Expr,
+        c: Boxed<Expr>,
     },
     Execute {
-        s: Expr,
+        s: Boxed<Expr>,
         template: u32,
         kept: Seq<Expr>,
     },

@@ -7,7 +7,7 @@ use Rattle.frp_lex.specs.declared.fault.LexKind.{LexKind}
 use Rattle.frp_lex.specs.declared.fault.LexKind.TheVariants as lex
 use Rattle.frp_form.specs.declared.fault.FormKind.{FormKind}
 use Rattle.frp_form.specs.declared.fault.FormKind.TheVariants as form
-use Rattle.frp_form.specs.Writing.{canonical}
+use Rattle.frp_write.specs.Writing.{canonical}
 use Rattle.frp_expr.specs.declared.fault.TypeKind.{TypeKind}
 use Rattle.frp_expr.specs.declared.fault.TypeKind.TheVariants as type
 use Rattle.frp_graph.specs.declared.file.File.{File}

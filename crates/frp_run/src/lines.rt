@@ -7,10 +7,11 @@ ghost use Rattle.frp_run.specs.Lines as spec;
 use crate::refused::Fault;
 use frp_base::{Memory, Text};
 use frp_expr::TypeKind;
-use frp_form::{FormKind, write};
+use frp_form::FormKind;
 use frp_graph::File;
 use frp_lex::LexKind;
 use frp_type::Label;
+use frp_write::write;
 use std::alloc::Global;
 
 /// The line of a fault.

@@ -108,7 +108,7 @@ fn is_built_decl(decl: &Decl) -> bool
         Decl::Function(_) => true,
         Decl::Item(item) => match &item.form {
             ItemForm::Sink { .. } => true,
-            ItemForm::Let { shape, .. } => is_built_form(&shape.form),
+            ItemForm::Let { shape, .. } => is_built_form(&shape.get().form),
             _ => false,
         },
         Decl::Template(_) => false,

@@ -1,5 +1,5 @@
 -- What the expansion itself makes. No name of the user begins with a percent sign, so its names hide nothing of theirs.
-use Rattle.std.specs.Prelude.{ℕ, Bool, List, [], ◌∷◌, ◌++◌, codes}
+use Rattle.std.specs.Prelude.{ℕ, Bool, [], ◌∷◌, ◌++◌, codes}
 use Rattle.std.specs.Fmt.{decimal}
 use Rattle.frp_base.specs.declared.text.Text.{Text}
 use Rattle.frp_expr.specs.declared.raw.Raw.{Raw, roll-Raw}

@@ -1,5 +1,5 @@
 -- The table of the derived forms: the core items that stand for each.
-use Rattle.std.specs.Prelude.{ℕ, ◌+◌, Bool, true, false, List, [], ◌∷◌}
+use Rattle.std.specs.Prelude.{ℕ, ◌+◌, true, false, List, [], ◌∷◌}
 use Rattle.frp_expr.specs.declared.raw.Raw.{Raw}
 use Rattle.frp_expr.specs.declared.raw.Spot.{Spot}
 use Rattle.frp_graph.specs.declared.file.Function.{Function}

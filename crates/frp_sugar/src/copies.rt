@@ -214,15 +214,8 @@ pub fn copied_param(alloc: Global, p: &Param) -> Result<Boxed<Param>, Memory>
     ensures { IfOk result (λ q. q ≡ p.now) }
 {
     let name = copied_spot(&p.name)?;
-    let ty = copied_ty(alloc, &p.ty)?;
-    Boxed::new(
-        alloc,
-        Param {
-            at: p.at,
-            name,
-            ty: ty.into_inner(),
-        },
-    )
+    let ty = copied_ty(alloc, p.ty.get())?;
+    Boxed::new(alloc, Param { at: p.at, name, ty })
 }
 
 /// Names and written types of the same places and forms, in order.
@@ -243,26 +236,23 @@ pub fn copied_function(alloc: Global, f: &Function) -> Result<Function, Memory>
 {
     let name = copied_spot(&f.name)?;
     let kept = all_params(alloc, f.kept.as_slice())?;
-    let arg = copied_param(alloc, &f.arg)?;
-    let e = copied(alloc, &f.e)?;
+    let arg = copied_param(alloc, f.arg.get())?;
+    let e = copied(alloc, f.e.get())?;
     Ok(Function {
         at: f.at,
         name,
         kept,
-        arg: arg.into_inner(),
-        e: e.into_inner(),
+        arg,
+        e,
     })
 }
 
 /// What a template gives, of the same places and forms.
-pub fn copied_give(alloc: Global, give: &Give) -> Result<Give, Memory>
+pub fn copied_give(alloc: Global, give: &Give) -> Result<Boxed<Give>, Memory>
     ensures { IfOk result (λ g. g ≡ give.now) }
 {
-    let e = copied(alloc, &give.e)?;
-    Ok(Give {
-        at: give.at,
-        e: e.into_inner(),
-    })
+    let e = copied(alloc, give.e.get())?;
+    Boxed::new(alloc, Give { at: give.at, e })
 }
 
 /// Listens of the same places and names, in order.
@@ -284,11 +274,11 @@ fn all_sends(alloc: Global, sends: &[RawSend]) -> Result<Seq<RawSend>, Memory>
     let mut all = Seq::new(alloc);
     for s in sends {
         let name = copied_spot(&s.name)?;
-        let value = copied(alloc, &s.value)?;
+        let value = copied(alloc, s.value.get())?;
         all.add(RawSend {
             at: s.at,
             name,
-            value: value.into_inner(),
+            value,
         })?;
     }
     Ok(all)

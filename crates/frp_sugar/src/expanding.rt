@@ -87,13 +87,13 @@ fn template(alloc: Global, t: &Template, next: &mut Next, out: &mut Seq<Decl>) -
 {
     let items = body(alloc, t.items.as_slice(), &mut next.functions, out)?;
     let name = copied_spot(&t.name)?;
-    let param = copied_param(alloc, &t.param)?;
+    let param = copied_param(alloc, t.param.get())?;
     let kept = all_params(alloc, t.kept.as_slice())?;
-    let give = copied_give(alloc, &t.give)?;
+    let give = copied_give(alloc, t.give.get())?;
     out.add(Decl::Template(Template {
         at: t.at,
         name,
-        param: param.into_inner(),
+        param,
         kept,
         items,
         give,

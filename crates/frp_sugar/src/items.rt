@@ -12,7 +12,7 @@ use crate::made::the;
 use crate::rows::{Lift, Step, accum, collect, defer, gate, lift2, lifted, once, orelse};
 use crate::shapes::{copied_shape, is_derived};
 use crate::site::{Next, Site};
-use frp_base::{Memory, Seq};
+use frp_base::{Boxed, Memory, Seq};
 use frp_expr::{Raw, RawTy, Spot};
 use frp_graph::{Decl, Item, ItemForm, RawShape, ShapeForm};
 use std::alloc::Global;
@@ -31,16 +31,16 @@ pub fn item(
     ensures functions { OnOk result (next.new.functions ≡ next.old.functions + spec.form_hidden_functions i.now.form) }
 {
     match &i.form {
-        ItemForm::Sink { name, ty } => sink(alloc, i.at, name, ty, items),
+        ItemForm::Sink { name, ty } => sink(alloc, i.at, name, ty.get(), items),
         ItemForm::Cellsink {
             sink,
             cell,
             ty,
             first,
-        } => cellsink(alloc, i.at, sink, cell, ty, first, items),
-        ItemForm::Let { name, shape } => bound(alloc, i.at, name, shape, next, out, items),
+        } => cellsink(alloc, i.at, sink, cell, ty.get(), first.get(), items),
+        ItemForm::Let { name, shape } => bound(alloc, i.at, name, shape.get(), next, out, items),
         ItemForm::Tie { from, to } => tie(i.at, from, to, items),
-        ItemForm::Get { name, cell } => get(alloc, i.at, name, cell, items),
+        ItemForm::Get { name, cell } => get(alloc, i.at, name, cell.get(), items),
     }
 }
 
@@ -58,10 +58,7 @@ fn sink(
     let ty = copied_ty(alloc, ty)?;
     items.add(Item {
         at,
-        form: ItemForm::Sink {
-            name,
-            ty: ty.into_inner(),
-        },
+        form: ItemForm::Sink { name, ty },
     })
 }
 
@@ -85,10 +82,7 @@ fn get(alloc: Global, at: u64, name: &Spot, cell: &Raw, items: &mut Seq<Item>) -
     let cell = copied(alloc, cell)?;
     items.add(Item {
         at,
-        form: ItemForm::Get {
-            name,
-            cell: cell.into_inner(),
-        },
+        form: ItemForm::Get { name, cell },
     })
 }
 
@@ -108,11 +102,8 @@ fn cellsink(
     let name = copied_spot(cell)?;
     let o = copied(alloc, o)?;
     let s = the(alloc, at, input)?;
-    let form = ShapeForm::Hold {
-        o: o.into_inner(),
-        s: s.into_inner(),
-    };
-    let shape = RawShape { at, form };
+    let form = ShapeForm::Hold { o, s };
+    let shape = Boxed::new(alloc, RawShape { at, form })?;
     items.add(Item {
         at,
         form: ItemForm::Let { name, shape },
@@ -199,7 +190,18 @@ fn functions(alloc: Global, k: Site, form: &ShapeForm, out: &mut Seq<Decl>) -> R
     ensures { OnOk result (out.new ≡ out.old ++ map decl.Function (table.shape_functions k.form k.functions form.now)) }
 {
     match form {
-        ShapeForm::Lift2 { x, y, ca, cb, e } => lifted(alloc, k, &Lift { x, y, ca, cb, e }, out),
+        ShapeForm::Lift2 { x, y, ca, cb, e } => lifted(
+            alloc,
+            k,
+            &Lift {
+                x: x.get(),
+                y: y.get(),
+                ca: ca.get(),
+                cb: cb.get(),
+                e: e.get(),
+            },
+            out,
+        ),
         _ => Ok(()),
     }
 }
@@ -216,9 +218,9 @@ fn row(
     ensures { OnOk result (items.new ≡ items.old ++ table.let_items k.item x.now k.form k.items k.functions form.now) }
 {
     match form {
-        ShapeForm::Orelse { a, b } => orelse(alloc, k, x, a, b, items),
-        ShapeForm::Gate { s, c } => gate(alloc, k, x, s, c, items),
-        ShapeForm::Once { s } => once(alloc, k, x, s, items),
+        ShapeForm::Orelse { a, b } => orelse(alloc, k, x, a.get(), b.get(), items),
+        ShapeForm::Gate { s, c } => gate(alloc, k, x, s.get(), c.get(), items),
+        ShapeForm::Once { s } => once(alloc, k, x, s.get(), items),
         ShapeForm::Accum {
             ty,
             x: y,
@@ -226,7 +228,22 @@ fn row(
             s,
             o,
             e,
-        } => { accum(alloc, k, x, ty, &Step { x: y, y: z, s, e }, o, items) }
+        } => {
+            accum(
+                alloc,
+                k,
+                x,
+                ty.get(),
+                &Step {
+                    x: y,
+                    y: z,
+                    s: s.get(),
+                    e: e.get(),
+                },
+                o.get(),
+                items,
+            )
+        }
         ShapeForm::Collect {
             ty,
             x: y,
@@ -234,7 +251,22 @@ fn row(
             s,
             o,
             e,
-        } => { collect(alloc, k, x, ty, &Step { x: y, y: z, s, e }, o, items) }
+        } => {
+            collect(
+                alloc,
+                k,
+                x,
+                ty.get(),
+                &Step {
+                    x: y,
+                    y: z,
+                    s: s.get(),
+                    e: e.get(),
+                },
+                o.get(),
+                items,
+            )
+        }
         ShapeForm::Lift2 {
             x: y,
             y: z,
@@ -247,16 +279,16 @@ fn row(
                 k,
                 x,
                 &Lift {
-                    x: y,
-                    y: z,
-                    ca,
-                    cb,
-                    e,
+                    x: y.get(),
+                    y: z.get(),
+                    ca: ca.get(),
+                    cb: cb.get(),
+                    e: e.get(),
                 },
                 items,
             )
         }
-        ShapeForm::Defer { s } => defer(alloc, k, x, s, items),
+        ShapeForm::Defer { s } => defer(alloc, k, x, s.get(), items),
         _ => unreachable!(),
     }
 }
@@ -276,9 +308,6 @@ fn core(
     let shape = copied_shape(alloc, shape)?;
     items.add(Item {
         at,
-        form: ItemForm::Let {
-            name,
-            shape: shape.into_inner(),
-        },
+        form: ItemForm::Let { name, shape },
     })
 }

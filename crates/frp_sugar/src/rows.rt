@@ -33,10 +33,16 @@ fn the_hidden(alloc: Global, k: Site, past: u64) -> Result<Boxed<Raw>, Memory>
 }
 
 /// Adds the item `(let name form)`.
-pub fn bind(k: Site, name: Spot, form: ShapeForm, out: &mut Seq<Item>) -> Result<(), Memory>
+pub fn bind(
+    alloc: Global,
+    k: Site,
+    name: Spot,
+    form: ShapeForm,
+    out: &mut Seq<Item>,
+) -> Result<(), Memory>
     ensures { OnOk result (out.new ≡ out.old ++ made.bound k.item k.form name form ∷ []) }
 {
-    let shape = RawShape { at: k.form, form };
+    let shape = Boxed::new(alloc, RawShape { at: k.form, form })?;
     out.add(Item {
         at: k.item,
         form: ItemForm::Let { name, shape },
@@ -68,14 +74,8 @@ fn pairs(
     let x = variable(alloc, k.form, "%u")?;
     let y = variable(alloc, k.form, "%v")?;
     let e = pair(alloc, k.form, &x, &y)?;
-    let form = ShapeForm::Snapshot {
-        x,
-        y,
-        s: s.into_inner(),
-        c: c.into_inner(),
-        e: e.into_inner(),
-    };
-    bind(k, name, form, out)
+    let form = ShapeForm::Snapshot { x, y, s, c, e };
+    bind(alloc, k, name, form, out)
 }
 
 /// Adds those pairs of a stream whose second part is true.
@@ -90,12 +90,8 @@ fn passing(
 {
     let x = variable(alloc, k.form, "%w")?;
     let e = second(alloc, k.form, &x)?;
-    let form = ShapeForm::Filter {
-        x,
-        s: s.into_inner(),
-        e: e.into_inner(),
-    };
-    bind(k, name, form, out)
+    let form = ShapeForm::Filter { x, s, e };
+    bind(alloc, k, name, form, out)
 }
 
 /// Adds the first parts of a stream of pairs.
@@ -110,12 +106,8 @@ fn firsts(
 {
     let x = variable(alloc, k.form, "%w")?;
     let e = first(alloc, k.form, &x)?;
-    let form = ShapeForm::Map {
-        x,
-        s: s.into_inner(),
-        e: e.into_inner(),
-    };
-    bind(k, name, form, out)
+    let form = ShapeForm::Map { x, s, e };
+    bind(alloc, k, name, form, out)
 }
 
 /// Adds the second parts of a stream of pairs.
@@ -130,12 +122,8 @@ fn seconds(
 {
     let x = variable(alloc, k.form, "%w")?;
     let e = second(alloc, k.form, &x)?;
-    let form = ShapeForm::Map {
-        x,
-        s: s.into_inner(),
-        e: e.into_inner(),
-    };
-    bind(k, name, form, out)
+    let form = ShapeForm::Map { x, s, e };
+    bind(alloc, k, name, form, out)
 }
 
 /// Adds a loop that is a cell.
@@ -143,14 +131,13 @@ fn loopc(alloc: Global, k: Site, name: Spot, ty: &RawTy, out: &mut Seq<Item>) ->
     ensures { OnOk result (out.new ≡ out.old ++ made.bound k.item k.form name (shape.Loopc ty.now) ∷ []) }
 {
     let ty = copied_ty(alloc, ty)?;
-    let form = ShapeForm::Loopc {
-        ty: ty.into_inner(),
-    };
-    bind(k, name, form, out)
+    let form = ShapeForm::Loopc { ty };
+    bind(alloc, k, name, form, out)
 }
 
 /// Adds a cell of what a stream gave last, and of a value before.
 fn hold(
+    alloc: Global,
     k: Site,
     name: Spot,
     o: Boxed<Raw>,
@@ -159,11 +146,8 @@ fn hold(
 ) -> Result<(), Memory>
     ensures { OnOk result (out.new ≡ out.old ++ made.bound k.item k.form name (shape.Hold o s) ∷ []) }
 {
-    let form = ShapeForm::Hold {
-        o: o.into_inner(),
-        s: s.into_inner(),
-    };
-    bind(k, name, form, out)
+    let form = ShapeForm::Hold { o, s };
+    bind(alloc, k, name, form, out)
 }
 
 /// What a step of `accum` or `collect` makes of an occurrence and the state.
@@ -184,14 +168,8 @@ fn steps(alloc: Global, k: Site, name: Spot, step: &Step, out: &mut Seq<Item>) -
     let s = copied(alloc, step.s)?;
     let c = the_hidden(alloc, k, 0)?;
     let e = copied(alloc, step.e)?;
-    let form = ShapeForm::Snapshot {
-        x,
-        y,
-        s: s.into_inner(),
-        c: c.into_inner(),
-        e: e.into_inner(),
-    };
-    bind(k, name, form, out)
+    let form = ShapeForm::Snapshot { x, y, s, c, e };
+    bind(alloc, k, name, form, out)
 }
 
 /// `(orelse a b)`: where both streams occur, what the left one gives.
@@ -214,11 +192,11 @@ pub fn orelse(
     let form = ShapeForm::Merge {
         x: u,
         y: v,
-        a: a.into_inner(),
-        b: b.into_inner(),
-        e: e.into_inner(),
+        a,
+        b,
+        e,
     };
-    bind(k, name, form, out)
+    bind(alloc, k, name, form, out)
 }
 
 /// Adds what a stream gives while a cell is true, under two hidden names and that of the item.
@@ -264,12 +242,8 @@ fn falses(alloc: Global, k: Site, name: Spot, s: &Raw, out: &mut Seq<Item>) -> R
     let x = variable(alloc, k.form, "%u")?;
     let s = copied(alloc, s)?;
     let e = bool(alloc, k.form, false)?;
-    let form = ShapeForm::Map {
-        x,
-        s: s.into_inner(),
-        e: e.into_inner(),
-    };
-    bind(k, name, form, out)
+    let form = ShapeForm::Map { x, s, e };
+    bind(alloc, k, name, form, out)
 }
 
 /// Adds a cell that is true until a stream occurs.
@@ -280,7 +254,7 @@ fn unused(alloc: Global, k: Site, s: &Raw, out: &mut Seq<Item>) -> Result<(), Me
     let name = hidden(alloc, k, 1)?;
     let o = bool(alloc, k.form, true)?;
     let s = the_hidden(alloc, k, 0)?;
-    hold(k, name, o, s, out)
+    hold(alloc, k, name, o, s, out)
 }
 
 /// `(once s)`: what s gives first.
@@ -323,7 +297,7 @@ fn states(alloc: Global, k: Site, o: &Raw, out: &mut Seq<Item>) -> Result<(), Me
     let name = hidden(alloc, k, 3)?;
     let o = copied(alloc, o)?;
     let s = the_hidden(alloc, k, 2)?;
-    hold(k, name, o, s, out)
+    hold(alloc, k, name, o, s, out)
 }
 
 /// `accum`: a cell of the state.
@@ -340,6 +314,7 @@ pub fn accum(
 {
     stepped(alloc, k, ty, step, out)?;
     hold(
+        alloc,
         k,
         copied_spot(x)?,
         copied(alloc, o)?,
@@ -383,12 +358,8 @@ fn closures(
     let e = close(alloc, k.form, function, y)?;
     let x = copied_spot(y)?;
     let c = copied(alloc, ca)?;
-    let form = ShapeForm::Mapc {
-        x,
-        c: c.into_inner(),
-        e: e.into_inner(),
-    };
-    bind(k, name, form, out)
+    let form = ShapeForm::Mapc { x, c, e };
+    bind(alloc, k, name, form, out)
 }
 
 /// The parts of `lift2`: the names of the values of two cells, the cells, and the expression over the names.
@@ -415,11 +386,8 @@ pub fn lift2(
     let name = copied_spot(x)?;
     let cf = the_hidden(alloc, k, 0)?;
     let ca = copied(alloc, lift.cb)?;
-    let form = ShapeForm::Apply {
-        cf: cf.into_inner(),
-        ca: ca.into_inner(),
-    };
-    bind(k, name, form, out)
+    let form = ShapeForm::Apply { cf, ca };
+    bind(alloc, k, name, form, out)
 }
 
 /// Adds the hidden function of `lift2`.
@@ -436,8 +404,8 @@ pub fn lifted(alloc: Global, k: Site, lift: &Lift, out: &mut Seq<Decl>) -> Resul
         at: k.form,
         name,
         kept,
-        arg: y.into_inner(),
-        e: e.into_inner(),
+        arg: y,
+        e,
     }))
 }
 
@@ -449,13 +417,9 @@ pub fn defer(alloc: Global, k: Site, x: &Spot, s: &Raw, out: &mut Seq<Item>) -> 
     let u = variable(alloc, k.form, "%u")?;
     let s = copied(alloc, s)?;
     let e = list(alloc, k.form, &u)?;
-    let form = ShapeForm::Map {
-        x: u,
-        s: s.into_inner(),
-        e: e.into_inner(),
-    };
-    bind(k, name, form, out)?;
+    let form = ShapeForm::Map { x: u, s, e };
+    bind(alloc, k, name, form, out)?;
     let name = copied_spot(x)?;
     let s = the_hidden(alloc, k, 0)?;
-    bind(k, name, ShapeForm::Split { s: s.into_inner() }, out)
+    bind(alloc, k, name, ShapeForm::Split { s }, out)
 }

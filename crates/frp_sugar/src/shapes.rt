@@ -39,174 +39,90 @@ pub fn copied_shape(alloc: Global, shape: &RawShape) -> Result<Boxed<RawShape>, 
 {
     match &shape.form {
         ShapeForm::Never { ty } => {
-            let ty = copied_ty(alloc, ty)?;
-            shape_at(
-                alloc,
-                shape.at,
-                ShapeForm::Never {
-                    ty: ty.into_inner(),
-                },
-            )
+            let ty = copied_ty(alloc, ty.get())?;
+            shape_at(alloc, shape.at, ShapeForm::Never { ty })
         }
         ShapeForm::Constant { o } => {
-            let o = copied(alloc, o)?;
-            shape_at(alloc, shape.at, ShapeForm::Constant { o: o.into_inner() })
+            let o = copied(alloc, o.get())?;
+            shape_at(alloc, shape.at, ShapeForm::Constant { o })
         }
         ShapeForm::Map { x, s, e } => {
             let x = copied_spot(x)?;
-            let s = copied(alloc, s)?;
-            let e = copied(alloc, e)?;
-            shape_at(
-                alloc,
-                shape.at,
-                ShapeForm::Map {
-                    x,
-                    s: s.into_inner(),
-                    e: e.into_inner(),
-                },
-            )
+            let s = copied(alloc, s.get())?;
+            let e = copied(alloc, e.get())?;
+            shape_at(alloc, shape.at, ShapeForm::Map { x, s, e })
         }
         ShapeForm::Mapc { x, c, e } => {
             let x = copied_spot(x)?;
-            let c = copied(alloc, c)?;
-            let e = copied(alloc, e)?;
-            shape_at(
-                alloc,
-                shape.at,
-                ShapeForm::Mapc {
-                    x,
-                    c: c.into_inner(),
-                    e: e.into_inner(),
-                },
-            )
+            let c = copied(alloc, c.get())?;
+            let e = copied(alloc, e.get())?;
+            shape_at(alloc, shape.at, ShapeForm::Mapc { x, c, e })
         }
         ShapeForm::Filter { x, s, e } => {
             let x = copied_spot(x)?;
-            let s = copied(alloc, s)?;
-            let e = copied(alloc, e)?;
-            shape_at(
-                alloc,
-                shape.at,
-                ShapeForm::Filter {
-                    x,
-                    s: s.into_inner(),
-                    e: e.into_inner(),
-                },
-            )
+            let s = copied(alloc, s.get())?;
+            let e = copied(alloc, e.get())?;
+            shape_at(alloc, shape.at, ShapeForm::Filter { x, s, e })
         }
         ShapeForm::Merge { x, y, a, b, e } => {
             let x = copied_spot(x)?;
             let y = copied_spot(y)?;
-            let a = copied(alloc, a)?;
-            let b = copied(alloc, b)?;
-            let e = copied(alloc, e)?;
-            shape_at(
-                alloc,
-                shape.at,
-                ShapeForm::Merge {
-                    x,
-                    y,
-                    a: a.into_inner(),
-                    b: b.into_inner(),
-                    e: e.into_inner(),
-                },
-            )
+            let a = copied(alloc, a.get())?;
+            let b = copied(alloc, b.get())?;
+            let e = copied(alloc, e.get())?;
+            shape_at(alloc, shape.at, ShapeForm::Merge { x, y, a, b, e })
         }
         ShapeForm::Snapshot { x, y, s, c, e } => {
             let x = copied_spot(x)?;
             let y = copied_spot(y)?;
-            let s = copied(alloc, s)?;
-            let c = copied(alloc, c)?;
-            let e = copied(alloc, e)?;
-            shape_at(
-                alloc,
-                shape.at,
-                ShapeForm::Snapshot {
-                    x,
-                    y,
-                    s: s.into_inner(),
-                    c: c.into_inner(),
-                    e: e.into_inner(),
-                },
-            )
+            let s = copied(alloc, s.get())?;
+            let c = copied(alloc, c.get())?;
+            let e = copied(alloc, e.get())?;
+            shape_at(alloc, shape.at, ShapeForm::Snapshot { x, y, s, c, e })
         }
         ShapeForm::Split { s } => {
-            let s = copied(alloc, s)?;
-            shape_at(alloc, shape.at, ShapeForm::Split { s: s.into_inner() })
+            let s = copied(alloc, s.get())?;
+            shape_at(alloc, shape.at, ShapeForm::Split { s })
         }
         ShapeForm::Updates { c } => {
-            let c = copied(alloc, c)?;
-            shape_at(alloc, shape.at, ShapeForm::Updates { c: c.into_inner() })
+            let c = copied(alloc, c.get())?;
+            shape_at(alloc, shape.at, ShapeForm::Updates { c })
         }
         ShapeForm::Value { c } => {
-            let c = copied(alloc, c)?;
-            shape_at(alloc, shape.at, ShapeForm::Value { c: c.into_inner() })
+            let c = copied(alloc, c.get())?;
+            shape_at(alloc, shape.at, ShapeForm::Value { c })
         }
         ShapeForm::Loops { ty } => {
-            let ty = copied_ty(alloc, ty)?;
-            shape_at(
-                alloc,
-                shape.at,
-                ShapeForm::Loops {
-                    ty: ty.into_inner(),
-                },
-            )
+            let ty = copied_ty(alloc, ty.get())?;
+            shape_at(alloc, shape.at, ShapeForm::Loops { ty })
         }
         ShapeForm::Loopc { ty } => {
-            let ty = copied_ty(alloc, ty)?;
-            shape_at(
-                alloc,
-                shape.at,
-                ShapeForm::Loopc {
-                    ty: ty.into_inner(),
-                },
-            )
+            let ty = copied_ty(alloc, ty.get())?;
+            shape_at(alloc, shape.at, ShapeForm::Loopc { ty })
         }
         ShapeForm::Hold { o, s } => {
-            let o = copied(alloc, o)?;
-            let s = copied(alloc, s)?;
-            shape_at(
-                alloc,
-                shape.at,
-                ShapeForm::Hold {
-                    o: o.into_inner(),
-                    s: s.into_inner(),
-                },
-            )
+            let o = copied(alloc, o.get())?;
+            let s = copied(alloc, s.get())?;
+            shape_at(alloc, shape.at, ShapeForm::Hold { o, s })
         }
         ShapeForm::Apply { cf, ca } => {
-            let cf = copied(alloc, cf)?;
-            let ca = copied(alloc, ca)?;
-            shape_at(
-                alloc,
-                shape.at,
-                ShapeForm::Apply {
-                    cf: cf.into_inner(),
-                    ca: ca.into_inner(),
-                },
-            )
+            let cf = copied(alloc, cf.get())?;
+            let ca = copied(alloc, ca.get())?;
+            shape_at(alloc, shape.at, ShapeForm::Apply { cf, ca })
         }
         ShapeForm::Switchs { c } => {
-            let c = copied(alloc, c)?;
-            shape_at(alloc, shape.at, ShapeForm::Switchs { c: c.into_inner() })
+            let c = copied(alloc, c.get())?;
+            shape_at(alloc, shape.at, ShapeForm::Switchs { c })
         }
         ShapeForm::Switchc { c } => {
-            let c = copied(alloc, c)?;
-            shape_at(alloc, shape.at, ShapeForm::Switchc { c: c.into_inner() })
+            let c = copied(alloc, c.get())?;
+            shape_at(alloc, shape.at, ShapeForm::Switchc { c })
         }
         ShapeForm::Execute { s, template, kept } => {
-            let s = copied(alloc, s)?;
+            let s = copied(alloc, s.get())?;
             let template = copied_spot(template)?;
             let kept = all_copied(alloc, kept.as_slice())?;
-            shape_at(
-                alloc,
-                shape.at,
-                ShapeForm::Execute {
-                    s: s.into_inner(),
-                    template,
-                    kept,
-                },
-            )
+            shape_at(alloc, shape.at, ShapeForm::Execute { s, template, kept })
         }
         _ => unreachable!(),
     }

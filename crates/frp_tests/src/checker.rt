@@ -10,11 +10,12 @@ fn spot(alloc: Global, at: u64, text: &str) -> Result<Spot, Memory> {
     Ok(Spot { at, text: copy })
 }
 
-fn name(alloc: Global, at: u64, text: &str) -> Result<Raw, Memory> {
-    Ok(Raw {
-        at,
-        form: RawForm::Name(spot(alloc, at, text)?.text),
-    })
+fn raw(alloc: Global, at: u64, form: RawForm) -> Result<Boxed<Raw>, Memory> {
+    Boxed::new(alloc, Raw { at, form })
+}
+
+fn name(alloc: Global, at: u64, text: &str) -> Result<Boxed<Raw>, Memory> {
+    raw(alloc, at, RawForm::Name(spot(alloc, at, text)?.text))
 }
 
 /// `(graph (sink a TYPE) (let b (map x a (add x 1))))`, with a type at place 15 of as many letters as `Bool`.
@@ -24,30 +25,21 @@ fn file(alloc: Global, ty: TyForm, listened: &str) -> Result<File, Memory> {
         at: 7,
         form: ItemForm::Sink {
             name: spot(alloc, 13, "a")?,
-            ty: RawTy { at: 15, form: ty },
+            ty: Boxed::new(alloc, RawTy { at: 15, form: ty })?,
         },
     }))?;
-    let x = Boxed::new(alloc, name(alloc, 42, "x")?)?;
-    let one = Boxed::new(
-        alloc,
-        Raw {
-            at: 44,
-            form: RawForm::Int(1),
-        },
-    )?;
+    let sum = RawForm::Add(name(alloc, 42, "x")?, raw(alloc, 44, RawForm::Int(1))?);
     let form = ShapeForm::Map {
         x: spot(alloc, 33, "x")?,
         s: name(alloc, 35, "a")?,
-        e: Raw {
-            at: 37,
-            form: RawForm::Add(x, one),
-        },
+        e: raw(alloc, 37, sum)?,
     };
+    let shape = Boxed::new(alloc, RawShape { at: 28, form })?;
     decls.add(Decl::Item(Item {
         at: 21,
         form: ItemForm::Let {
             name: spot(alloc, 26, "b")?,
-            shape: RawShape { at: 28, form },
+            shape,
         },
     }))?;
     let mut listens = Seq::new(alloc);

@@ -1,28 +1,23 @@
 -- What the checker has at the end is what the file means.
-use Rattle.std.proofs.Common.{◌≡◌, ℕ, true, List, [], ◌∷◌, ◌++◌, length, map, None, Result, Ok, refl, sym, ap, ◌∙◌, subst}
-use Rattle.std.specs.Prelude.{unwrap_or}
+use Rattle.std.proofs.Common.{◌≡◌, ℕ, true, List, [], ◌∷◌, ◌++◌, map, None, Ok, refl, sym, ap, ◌∙◌, subst}
 use Rattle.std.proofs.lemmas.List.{map-append}
 use Rattle.frp_base.specs.declared.name.Name.{Name}
-use Rattle.frp_expr.specs.declared.expr.Expr.{Expr}
 use Rattle.frp_expr.specs.Raw.{Outcome, ◌>>=◌}
 use Rattle.frp_graph.specs.declared.file.Decl.{Decl}
 use Rattle.frp_graph.specs.declared.file.Decl.TheVariants as d
 use Rattle.frp_graph.specs.declared.file.File.{File}
 use Rattle.frp_graph.specs.declared.file.ItemForm.{ItemForm}
-use Rattle.frp_graph.specs.declared.file.ItemForm.TheVariants.{Sink, Let, Tie}
+use Rattle.frp_graph.specs.declared.file.ItemForm.TheVariants.{Sink, Let}
 use Rattle.frp_graph.specs.declared.file.ShapeForm.{ShapeForm}
 use Rattle.frp_graph.specs.declared.file.ShapeForm.TheVariants.{Loops, Loopc}
-use Rattle.frp_graph.specs.declared.prog.FunDef.{FunDef}
-use Rattle.frp_graph.specs.declared.prog.Line3.{Line3}
 use Rattle.frp_graph.specs.declared.prog.Line3.TheVariants.{Node}
-use Rattle.frp_graph.specs.declared.prog.LineShape.{LineShape}
 use Rattle.frp_graph.specs.declared.prog.Prog.{Prog}
 use Rattle.frp_graph.specs.declared.trace.Fact.{Fact}
 use Rattle.frp_graph.specs.TypedProg.{IsTypedProg}
 use Rattle.frp_type.specs.Core.{is_core}
-use Rattle.frp_type.specs.Known.{Known, nothing, shape_typing, declared, all_declared}
+use Rattle.frp_type.specs.Known.{Known, nothing, shape_typing, all_declared}
 use Rattle.frp_type.specs.Faults.{all_tied, listened, scripted, checked}
-use Rattle.frp_type.specs.Meaning.{after, known_after, each, or_int, line_shape, item_lines, lines_of, codes_of, ties_of, funs_of, prog_of, labels_from, references_from, node_named, sent_over, typed_by, meaning}
+use Rattle.frp_type.specs.Meaning.{after, known_after, each, or_int, line_shape, item_lines, lines_of, ties_of, prog_of, labels_from, references_from, node_named, sent_over, typed_by, meaning}
 use Rattle.frp_type.specs.States.{known_of, Holds, tie_shape, tie_line, prog_in, IsTypedFile}
 use Rattle.frp_type.specs.declared.state.State.{State}
 use Rattle.frp_type.specs.declared.typed.Label.{Label}

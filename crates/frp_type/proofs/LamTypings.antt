@@ -1,19 +1,17 @@
 -- The typing of an expression with variables, as an expression of the program and the values that it keeps.
-use Rattle.std.proofs.Common.{◌≡◌, ℕ, ◌+◌, List, [], ◌∷◌, ◌++◌, length, map, refl, sym, ap, ◌∙◌, subst}
+use Rattle.std.proofs.Common.{◌≡◌, ◌+◌, List, [], ◌∷◌, ◌++◌, length, sym, ap, ◌∙◌}
 use Rattle.std.specs.Prelude.{filter, nat_lt}
 use Rattle.std.proofs.lemmas.List.{map-append, length-append, length-map}
-use Rattle.frp_base.specs.declared.text.Text.{Text}
-use Rattle.frp_base.specs.declared.ty.Ty.{Ty}
 use Rattle.frp_expr.specs.declared.expr.Expr.{Expr}
 use Rattle.frp_expr.specs.declared.raw.Raw.{Raw}
 use Rattle.frp_expr.specs.declared.scope.Scope.{Scope}
 use Rattle.frp_expr.specs.declared.scope.Typing.{Typing}
 use Rattle.frp_expr.specs.Raw.{resolve}
-use Rattle.frp_expr.specs.Scope.{Named, Fun, names_of, fun_names}
+use Rattle.frp_expr.specs.Scope.{Named, names_of, fun_names}
 use Rattle.frp_expr.specs.TypeOf.{IsTypingOf}
 use Rattle.frp_expr.specs.Uses.{uses}
 use Rattle.frp_graph.specs.declared.prog.LineLam.{LineLam}
-use Rattle.frp_type.specs.Closed.{kept_number, renumbered, closed, used_of}
+use Rattle.frp_type.specs.Closed.{kept_number, renumbered, used_of}
 use Rattle.frp_type.specs.Known.{Known}
 use Rattle.frp_type.specs.Meaning.{meant, code, lam}
 use Rattle.frp_type.specs.States.{here}

@@ -1,5 +1,5 @@
 -- One line after another is tied.
-use Rattle.std.proofs.Common.{◌≡◌, ℕ, zero, suc, ◌+◌, List, [], ◌∷◌, ◌++◌, map, take, drop, get_or, refl, sym, ap, ◌∙◌, arith}
+use Rattle.std.proofs.Common.{◌≡◌, ℕ, zero, suc, ◌+◌, List, [], ◌∷◌, ◌++◌, map, take, drop, get_or, refl, ap, ◌∙◌, arith}
 use Rattle.std.specs.Prelude.{slice_set}
 
 set_or : {A : Type 0} (f : A → A) (xs : List A) (i : ℕ) (v : A) → v ≡ get_or (map f (take i xs) ++ drop i xs) i v

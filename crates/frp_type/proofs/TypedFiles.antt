@@ -1,6 +1,6 @@
 -- The program of a file without a fault is typed.
-use Rattle.std.proofs.Common.{◌≡◌, ℕ, suc, zero, ◌+◌, ◌≤◌, ◌<◌, Bool, true, false, List, [], ◌∷◌, ◌++◌, length, map, Option, Some, None, Result, Ok, Err, refl, sym, ap, ◌∙◌, subst, arith, inl, inr, append_assoc}
-use Rattle.std.specs.Prelude.{◌&&◌, ◌==◌, ◌⊎◌, IsTrue, is_some, unwrap_or, filter, not, slice_get, if◌then◌else◌}
+use Rattle.std.proofs.Common.{◌≡◌, ℕ, suc, zero, ◌+◌, Bool, true, false, List, [], ◌∷◌, ◌++◌, length, map, Option, Some, None, Ok, refl, sym, ap, ◌∙◌, subst, arith, inl, inr, append_assoc}
+use Rattle.std.specs.Prelude.{◌&&◌, ◌==◌, is_some, unwrap_or, filter, not, slice_get, if◌then◌else◌}
 use Rattle.std.specs.Result.{result_ok}
 use Rattle.std.specs.List.{list_all, AllByRecursion}
 use Rattle.std.proofs.lemmas.Bool.{cases_Bool}
@@ -9,14 +9,13 @@ use Rattle.std.proofs.lemmas.List.{map-append, length-map, length-append}
 use Rattle.frp_base.specs.declared.text.Text.{Text}
 use Rattle.frp_base.specs.declared.ty.Ty.{Ty}
 use Rattle.frp_base.specs.declared.ty.Ty.TheVariants as t
-use Rattle.frp_base.specs.Ty.{ty_eq}
 use Rattle.frp_base.proofs.TyLemmas.{ty_decides}
 use Rattle.frp_expr.specs.declared.expr.Expr.{Expr}
 use Rattle.frp_expr.specs.declared.fault.TypeKind.TheVariants as kind
 use Rattle.frp_expr.specs.declared.raw.Raw.{Raw}
 use Rattle.frp_expr.specs.declared.raw.RawTy.{RawTy}
 use Rattle.frp_expr.specs.declared.raw.Spot.{Spot}
-use Rattle.frp_expr.specs.Raw.{Outcome, ◌>>=◌, written, typing, is_lawful, resolve}
+use Rattle.frp_expr.specs.Raw.{Outcome, ◌>>=◌, written, typing, resolve}
 use Rattle.frp_expr.specs.Scope.{Named, Fun, names_of, types_of, fun_names, sigs_of}
 use Rattle.frp_expr.specs.Types.{given}
 use Rattle.frp_expr.specs.Typing.{Sig, type_in, has}
@@ -32,16 +31,16 @@ use Rattle.frp_graph.specs.declared.file.ShapeForm.{ShapeForm}
 use Rattle.frp_graph.specs.declared.file.ShapeForm.TheVariants.{Loops, Loopc}
 use Rattle.frp_graph.specs.declared.prog.FunDef.{FunDef}
 use Rattle.frp_graph.specs.declared.prog.Line3.{Line3}
-use Rattle.frp_graph.specs.declared.prog.Line3.TheVariants.{Node, Get}
+use Rattle.frp_graph.specs.declared.prog.Line3.TheVariants.{Node}
 use Rattle.frp_graph.specs.declared.prog.LineShape.{LineShape}
 use Rattle.frp_graph.specs.declared.prog.LineShape.TheVariants as l
-use Rattle.frp_graph.specs.TypedProg.{IsTypedProg, is_tied, is_typed_line, are_typed_lines, shape_type, sig_of, are_typed_funs, all_types, is_stream, is_type}
-use Rattle.frp_type.specs.Core.{is_core, is_core_decl, is_core_item, is_core_sender, is_core_shape}
-use Rattle.frp_type.specs.Known.{Known, nothing, is_new, shape_typing, lam_in, is_loop, with_name, with_node, tying, loop_of, target_of, named, is_untied, type_at, same_type, fault_if, item_known, params, fun_known, declared, all_declared}
+use Rattle.frp_graph.specs.TypedProg.{IsTypedProg, is_tied, are_typed_lines, shape_type, sig_of, are_typed_funs, all_types, is_type}
+use Rattle.frp_type.specs.Core.{is_core, is_core_decl, is_core_item, is_core_sender}
+use Rattle.frp_type.specs.Known.{Known, nothing, is_new, shape_typing, lam_in, with_name, with_node, tying, loop_of, target_of, named, type_at, same_type, fault_if, item_known, params, fun_known, declared, all_declared}
 use Rattle.frp_type.specs.Faults.{checked, all_tied, listened, scripted}
-use Rattle.frp_type.specs.Meaning.{after, known_after, each, or_int, meant, operand, code, lam, tied_to, line_shape, item_lines, lines_of, code_in, item_codes, codes_of, tie_in, item_ties, ties_of, fun_def, funs_of, prog_of, meaning}
+use Rattle.frp_type.specs.Meaning.{after, each, or_int, code, tied_to, line_shape, item_lines, lines_of, code_in, item_codes, codes_of, tie_in, item_ties, ties_of, fun_def, funs_of, prog_of, meaning}
 use Rattle.frp_type.proofs.WrittenTypes.{is_stream_type, stream_is_type, written_is_type}
-use Rattle.frp_type.proofs.TypedShapes.{bind_ok, ok_same, typed_shape, HasCode}
+use Rattle.frp_type.proofs.TypedShapes.{bind_ok, ok_same, typed_shape}
 
 -- Lists.
 

@@ -1,6 +1,6 @@
 -- A shape without a fault is a typed line.
-use Rattle.std.proofs.Common.{◌≡◌, ℕ, suc, zero, ◌+◌, ◌≤◌, ◌<◌, Bool, true, false, List, [], ◌∷◌, ◌++◌, length, map, Option, Some, None, Result, Ok, Err, refl, sym, ap, ◌∙◌, subst, arith}
-use Rattle.std.specs.Prelude.{◌&&◌, ◌||◌, slice_get, if◌then◌else◌}
+use Rattle.std.proofs.Common.{◌≡◌, ℕ, Bool, true, false, List, [], ◌∷◌, ◌++◌, length, Option, Some, None, Ok, Err, refl, sym, ap, ◌∙◌, subst}
+use Rattle.std.specs.Prelude.{◌&&◌, ◌||◌, slice_get}
 use Rattle.std.specs.Result.{result_ok}
 use Rattle.std.proofs.lemmas.List.{map-append, length-map}
 use Rattle.frp_base.specs.declared.text.Text.{Text}
@@ -14,9 +14,9 @@ use Rattle.frp_base.proofs.TyLemmas.{ty_decides}
 use Rattle.frp_expr.specs.declared.expr.Expr.{Expr}
 use Rattle.frp_expr.specs.declared.raw.Raw.{Raw}
 use Rattle.frp_expr.specs.Raw.{Outcome, ◌>>=◌, or_fault, part_of, written, typing, is_lawful, resolve}
-use Rattle.frp_expr.specs.Scope.{Named, Fun, names_of, types_of, fun_names, sigs_of}
+use Rattle.frp_expr.specs.Scope.{Named, names_of, types_of, fun_names, sigs_of}
 use Rattle.frp_expr.specs.Types.{given, item_type}
-use Rattle.frp_expr.specs.Typing.{Sig, ◌>>=◌ as ◌>>?◌, type_in, has}
+use Rattle.frp_expr.specs.Typing.{Sig, ◌>>=◌ as ◌>>?◌, type_in}
 use Rattle.frp_expr.specs.declared.fault.TypeFault.{TypeFault}
 use Rattle.frp_expr.specs.declared.fault.TypeKind.{TypeKind}
 use Rattle.frp_expr.specs.declared.fault.TypeKind.TheVariants as kind
@@ -29,7 +29,7 @@ use Rattle.frp_graph.specs.TypedProg.{stream_item, cell_item, stream_of, cell_of
 use Rattle.frp_type.specs.Closed.{closed, used_of}
 use Rattle.frp_type.specs.Core.{is_core_shape}
 use Rattle.frp_type.specs.Known.{Known, seen, of_type, stream, cell, over, fun_in, fun_parts, shape_typing, lam_in}
-use Rattle.frp_type.specs.Meaning.{operand, meant, code, lam, line_shape, code_in}
+use Rattle.frp_type.specs.Meaning.{operand, meant, code, lam, line_shape}
 use Rattle.frp_type.proofs.MoreFuns.{sigs_more}
 use Rattle.frp_type.proofs.ClosedTypes.{closed_type}
 use Rattle.frp_type.proofs.WrittenTypes.{stream_item_of, cell_item_of, is_stream_type, cell_is_node, stream_is_type, cell_is_type, written_is_type}

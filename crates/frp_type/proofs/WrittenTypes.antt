@@ -1,14 +1,13 @@
 -- A written type without a fault is a type of the language.
-use Rattle.std.proofs.Common.{◌≡◌, ℕ, Bool, true, false, Option, Some, None, Result, Ok, Err, refl, sym, ap, ◌∙◌, subst}
-use Rattle.std.specs.Prelude.{◌&&◌, ◌||◌, is_some, if◌then◌else◌}
-use Rattle.frp_base.specs.declared.ty.Ty.{Ty, out-Ty, roll-Ty, out-roll-Ty, ind-Ty}
+use Rattle.std.proofs.Common.{◌≡◌, ℕ, Bool, true, false, Some, Ok, Err, refl, sym, ap, ◌∙◌, subst}
+use Rattle.std.specs.Prelude.{◌&&◌, ◌||◌, is_some}
+use Rattle.frp_base.specs.declared.ty.Ty.{Ty, roll-Ty, out-roll-Ty, ind-Ty}
 use Rattle.frp_base.specs.declared.ty.Ty.TheOpen.{Ty-F}
 use Rattle.frp_base.specs.declared.ty.Ty.TheOpen as u
 use Rattle.frp_base.specs.declared.ty.Ty.TheVariants as t
 use Rattle.frp_base.specs.declared.ty.Ty.TheFolds.{fold-Ty, fold-roll-Ty, map-Ty}
 use Rattle.frp_expr.specs.Types.{is_plain, is_plain_step, given}
 use Rattle.frp_expr.specs.Raw.{Outcome, ◌>>=◌, or_fault, TyPart, item_by, ty_part, written, written_step}
-use Rattle.frp_expr.specs.declared.fault.TypeKind.{TypeKind}
 use Rattle.frp_expr.specs.declared.fault.TypeKind.TheVariants as kind
 use Rattle.frp_expr.specs.declared.raw.RawTy.{RawTy, RawTy-F, roll-RawTy, fold-roll-RawTy, map-RawTy, ind-RawTy}
 use Rattle.frp_expr.specs.declared.raw.TyForm.{TyForm, TyForm-F, roll-TyForm, fold-TyForm, fold-roll-TyForm, map-TyForm}

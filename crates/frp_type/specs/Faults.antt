@@ -1,8 +1,6 @@
 -- The first fault of a file: of its declarations in order, then a loop that is not tied, then of its listens and its senders.
-use Rattle.std.specs.Prelude.{◌≡◌, List, [], ◌∷◌, Result, Ok, Err}
-use Rattle.frp_base.specs.declared.ty.Ty.{Ty}
+use Rattle.std.specs.Prelude.{List, [], ◌∷◌, Ok, Err}
 use Rattle.frp_expr.specs.Raw.{Outcome, ◌>>=◌, typing}
-use Rattle.frp_expr.specs.declared.fault.TypeFault.{TypeFault}
 use Rattle.frp_expr.specs.declared.fault.TypeKind.TheVariants as kind
 use Rattle.frp_graph.specs.declared.file.File.{File}
 use Rattle.frp_graph.specs.declared.file.Listen.{Listen}

@@ -1,7 +1,7 @@
 -- What is known before a declaration, and the types and first faults of declarations. Names and operands are looked at from
 -- the left: a name before its type, an operand with its own parts first and then its own type in its place, all before the
 -- next.
-use Rattle.std.specs.Prelude.{◌≡◌, ℕ, ◌+◌, Bool, true, false, not, ◌==◌, List, [], ◌∷◌, ◌++◌, map, length, filter, Option, Some, None, is_some, Result, Ok, Err, slice_get, if◌then◌else◌}
+use Rattle.std.specs.Prelude.{ℕ, ◌+◌, Bool, true, false, not, ◌==◌, List, [], ◌∷◌, ◌++◌, length, filter, Option, Some, None, is_some, Ok, Err, slice_get, if◌then◌else◌}
 use Rattle.std.specs.List.{list_any}
 use Rattle.frp_base.specs.declared.text.Text.{Text}
 use Rattle.frp_base.specs.declared.ty.Ty.{Ty, out-Ty}
@@ -13,17 +13,14 @@ use Rattle.frp_expr.specs.Types.{item_type, given}
 use Rattle.frp_expr.specs.Typing.{◌>>=◌ as ◌>>?◌}
 use Rattle.frp_expr.specs.Scope.{text_eq, place_of, Named, Fun, names_of, types_of, fun_names}
 use Rattle.frp_expr.specs.Raw.{Outcome, ◌>>=◌, or_fault, part_of, written, typing}
-use Rattle.frp_expr.specs.declared.fault.TypeFault.{TypeFault}
 use Rattle.frp_expr.specs.declared.fault.TypeKind.{TypeKind}
 use Rattle.frp_expr.specs.declared.fault.TypeKind.TheVariants as kind
 use Rattle.frp_expr.specs.declared.raw.Raw.{Raw}
 use Rattle.frp_expr.specs.declared.raw.Spot.{Spot}
 use Rattle.frp_graph.specs.declared.file.Param.{Param}
 use Rattle.frp_graph.specs.declared.file.Function.{Function}
-use Rattle.frp_graph.specs.declared.file.Item.{Item}
 use Rattle.frp_graph.specs.declared.file.ItemForm.{ItemForm}
 use Rattle.frp_graph.specs.declared.file.ItemForm.TheVariants.{Sink, Let, Tie}
-use Rattle.frp_graph.specs.declared.file.RawShape.{RawShape}
 use Rattle.frp_graph.specs.declared.file.ShapeForm.{ShapeForm}
 use Rattle.frp_graph.specs.declared.file.ShapeForm.TheVariants.{Never, Constant, Map, Mapc, Filter, Merge, Snapshot, Split, Updates, Value, Loops, Loopc, Hold, Apply, Switchs, Switchc, Execute}
 use Rattle.frp_graph.specs.declared.file.Decl.{Decl}

@@ -122,7 +122,7 @@ fn sent(alloc: Global, state: &State, references: &[Val], s: &RawSend) -> Result
     ensures fact { IfOk result (λ r. r ≡ sent_over (known_of state.now) references.now s.now) }
 {
     let node = node_named(alloc, state, &s.name)?;
-    let (e, _) = operand(alloc, &state.scope, &s.value)?;
+    let (e, _) = operand(alloc, &state.scope, s.value.get())?;
     let value = eval(alloc, e.get(), references)?;
     Ok(Fact { node, value })
 }

@@ -32,7 +32,7 @@ fn is_core_decl(decl: &Decl) -> bool
     ensures { result ≡ is_core_decl decl.now }
 {
     match decl {
-        Decl::Function(f) => is_lawful(&f.e),
+        Decl::Function(f) => is_lawful(f.e.get()),
         Decl::Item(i) => is_core_item(&i.form),
         Decl::Template(_) => false,
     }
@@ -44,7 +44,7 @@ fn is_core_item(item: &ItemForm) -> bool
 {
     match item {
         ItemForm::Sink { .. } => true,
-        ItemForm::Let { shape, .. } => is_core_shape(&shape.form),
+        ItemForm::Let { shape, .. } => is_core_shape(&shape.get().form),
         ItemForm::Tie { .. } => true,
         _ => false,
     }
@@ -56,22 +56,26 @@ fn is_core_shape(shape: &ShapeForm) -> bool
 {
     match shape {
         ShapeForm::Never { .. } => true,
-        ShapeForm::Constant { o } => is_lawful(o),
-        ShapeForm::Map { s, e, .. } => is_lawful(s) && is_lawful(e),
-        ShapeForm::Mapc { c, e, .. } => is_lawful(c) && is_lawful(e),
-        ShapeForm::Filter { s, e, .. } => is_lawful(s) && is_lawful(e),
-        ShapeForm::Merge { a, b, e, .. } => is_lawful(a) && is_lawful(b) && is_lawful(e),
-        ShapeForm::Snapshot { s, c, e, .. } => is_lawful(s) && is_lawful(c) && is_lawful(e),
-        ShapeForm::Split { s } => is_lawful(s),
-        ShapeForm::Updates { c } => is_lawful(c),
-        ShapeForm::Value { c } => is_lawful(c),
+        ShapeForm::Constant { o } => is_lawful(o.get()),
+        ShapeForm::Map { s, e, .. } => is_lawful(s.get()) && is_lawful(e.get()),
+        ShapeForm::Mapc { c, e, .. } => is_lawful(c.get()) && is_lawful(e.get()),
+        ShapeForm::Filter { s, e, .. } => is_lawful(s.get()) && is_lawful(e.get()),
+        ShapeForm::Merge { a, b, e, .. } => is_lawful(a.get())
+            && is_lawful(b.get())
+            && is_lawful(e.get()),
+        ShapeForm::Snapshot { s, c, e, .. } => is_lawful(s.get())
+            && is_lawful(c.get())
+            && is_lawful(e.get()),
+        ShapeForm::Split { s } => is_lawful(s.get()),
+        ShapeForm::Updates { c } => is_lawful(c.get()),
+        ShapeForm::Value { c } => is_lawful(c.get()),
         ShapeForm::Loops { .. } => true,
         ShapeForm::Loopc { .. } => true,
-        ShapeForm::Hold { o, s } => is_lawful(o) && is_lawful(s),
-        ShapeForm::Apply { cf, ca } => is_lawful(cf) && is_lawful(ca),
-        ShapeForm::Switchs { c } => is_lawful(c),
-        ShapeForm::Switchc { c } => is_lawful(c),
-        ShapeForm::Execute { s, .. } => is_lawful(s),
+        ShapeForm::Hold { o, s } => is_lawful(o.get()) && is_lawful(s.get()),
+        ShapeForm::Apply { cf, ca } => is_lawful(cf.get()) && is_lawful(ca.get()),
+        ShapeForm::Switchs { c } => is_lawful(c.get()),
+        ShapeForm::Switchc { c } => is_lawful(c.get()),
+        ShapeForm::Execute { s, .. } => is_lawful(s.get()),
         _ => false,
     }
 }
@@ -93,7 +97,7 @@ fn are_lawful_sends(sends: &[RawSend]) -> bool
     ensures { result ≡ list_all (λ x. is_lawful x.value) sends.now }
 {
     for s in sends {
-        if !is_lawful(&s.value) {
+        if !is_lawful(s.value.get()) {
             return false;
         }
     }

@@ -29,7 +29,7 @@ fn param(alloc: Global, p: &Param, names: &mut Seq<(Text, Ty)>) -> Result<(), Ex
 {
     new_name(names.as_slice(), &p.name)?;
     let text = p.name.text.copy()?;
-    let ty = boxed_type(alloc, &p.ty)?;
+    let ty = boxed_type(alloc, p.ty.get())?;
     names.add((text, ty.into_inner()))?;
     Ok(())
 }
@@ -180,18 +180,44 @@ fn function(alloc: Global, state: &mut State, f: &Function) -> Result<(), ExprSt
     ensures known { Gives (λ _. known_of state.new) result (fun_known (known_of state.old) f.now) }
     ensures adds { OnOk result (Adds state.old state.new (decl.Function f.now)) }
 {
-    new_fun(state.scope.funs.as_slice(), &f.name)?;
+    defined(
+        alloc,
+        state,
+        f.at,
+        &f.name,
+        f.kept.as_slice(),
+        f.arg.get(),
+        f.e.get(),
+    )
+}
+
+/// A function of this name, with these kept names, this argument and this expression.
+fn defined(
+    alloc: Global,
+    state: &mut State,
+    at: u64,
+    name: &Spot,
+    kept: &[Param],
+    arg: &Param,
+    e: &Raw,
+) -> Result<(), ExprStop>
+    requires core { IsTrue (is_lawful e.now) }
+    requires funs { length state.old.scope.funs < 2 ^ 32 }
+    ensures known { Gives (λ _. known_of state.new) result (fun_known (known_of state.old) (record { at = at; name = name.now; kept = kept.now; arg = arg.now; e = e.now })) }
+    ensures adds { OnOk result (Adds state.old state.new (decl.Function (record { at = at; name = name.now; kept = kept.now; arg = arg.now; e = e.now }))) }
+{
+    new_fun(state.scope.funs.as_slice(), name)?;
     let mut names = Seq::new(alloc);
-    all_params(alloc, f.kept.as_slice(), &mut names)?;
+    all_params(alloc, kept, &mut names)?;
     let kept = types_of(alloc, names.as_slice())?;
     let again = types_of(alloc, names.as_slice())?;
-    new_name(names.as_slice(), &f.arg.name)?;
-    let text = f.name.text.copy()?;
-    let arg = boxed_type(alloc, &f.arg.ty)?;
-    let taken = copied(alloc, &arg)?;
-    names.add((f.arg.name.text.copy()?, taken.into_inner()))?;
-    let typing = over(alloc, state, names, &f.e)?;
-    add_fun(alloc, state, text, kept, again, arg, typing)?;
+    new_name(names.as_slice(), &arg.name)?;
+    let text = name.text.copy()?;
+    let ty = boxed_type(alloc, arg.ty.get())?;
+    let taken = copied(alloc, &ty)?;
+    names.add((arg.name.text.copy()?, taken.into_inner()))?;
+    let typing = over(alloc, state, names, e)?;
+    add_fun(alloc, state, text, kept, again, ty, typing)?;
     Ok(())
 }
 
@@ -261,8 +287,8 @@ fn item(alloc: Global, state: &mut State, item: &Item) -> Result<(), ExprStop>
     ensures adds { OnOk result (Adds state.old state.new (decl.Item item.now)) }
 {
     match &item.form {
-        ItemForm::Sink { name, ty } => sink(alloc, state, item.at, name, ty),
-        ItemForm::Let { name, shape } => bound(alloc, state, item.at, name, shape),
+        ItemForm::Sink { name, ty } => sink(alloc, state, item.at, name, ty.get()),
+        ItemForm::Let { name, shape } => bound(alloc, state, item.at, name, shape.get()),
         ItemForm::Tie { from, to } => tie(alloc, state, item.at, from, to),
         _ => unreachable!(),
     }

@@ -40,7 +40,7 @@ fn constant(alloc: Global, scope: &Scope, o: &Raw) -> Result<Line, ExprStop>
     let (o, a) = operand(alloc, scope, o)?;
     Ok(Line {
         ty: Ty::Cell(a),
-        shape: LineShape::Constant { o: o.into_inner() },
+        shape: LineShape::Constant { o },
     })
 }
 
@@ -66,10 +66,7 @@ fn map(
     let (f, b) = lam_one(alloc, scope, codes, &x.text, a, e)?;
     Ok(Line {
         ty: Ty::Stream(b),
-        shape: LineShape::Map {
-            f,
-            s: s.into_inner(),
-        },
+        shape: LineShape::Map { f, s },
     })
 }
 
@@ -95,10 +92,7 @@ fn mapc(
     let (f, b) = lam_one(alloc, scope, codes, &x.text, a, e)?;
     Ok(Line {
         ty: Ty::Cell(b),
-        shape: LineShape::Mapc {
-            f,
-            c: c.into_inner(),
-        },
+        shape: LineShape::Mapc { f, c },
     })
 }
 
@@ -126,10 +120,7 @@ fn filter(
     same_type(b.get(), &Ty::Bool, e.at)?;
     Ok(Line {
         ty: Ty::Stream(item),
-        shape: LineShape::Filter {
-            f,
-            s: s.into_inner(),
-        },
+        shape: LineShape::Filter { f, s },
     })
 }
 
@@ -165,8 +156,8 @@ fn merge(
         ty: ty.into_inner(),
         shape: LineShape::Merge {
             f,
-            a: one.into_inner(),
-            b: other.into_inner(),
+            a: one,
+            b: other,
         },
     })
 }
@@ -197,11 +188,7 @@ fn snapshot(
     let (f, d) = lam_two(alloc, scope, codes, &x.text, a, &y.text, b, e)?;
     Ok(Line {
         ty: Ty::Stream(d),
-        shape: LineShape::Snapshot {
-            f,
-            s: s.into_inner(),
-            c: c.into_inner(),
-        },
+        shape: LineShape::Snapshot { f, s, c },
     })
 }
 
@@ -217,7 +204,7 @@ fn split(alloc: Global, scope: &Scope, s: &Raw) -> Result<Line, ExprStop>
     let a = split_item(ty.into_inner(), at)?;
     Ok(Line {
         ty: Ty::Stream(a),
-        shape: LineShape::Split { s: s.into_inner() },
+        shape: LineShape::Split { s },
     })
 }
 
@@ -231,7 +218,7 @@ fn updates(alloc: Global, scope: &Scope, c: &Raw) -> Result<Line, ExprStop>
     let (c, a) = cell(alloc, scope, c)?;
     Ok(Line {
         ty: Ty::Stream(a),
-        shape: LineShape::Updates { c: c.into_inner() },
+        shape: LineShape::Updates { c },
     })
 }
 
@@ -245,7 +232,7 @@ fn value(alloc: Global, scope: &Scope, c: &Raw) -> Result<Line, ExprStop>
     let (c, a) = cell(alloc, scope, c)?;
     Ok(Line {
         ty: Ty::Stream(a),
-        shape: LineShape::Value { c: c.into_inner() },
+        shape: LineShape::Value { c },
     })
 }
 
@@ -262,10 +249,7 @@ fn hold(alloc: Global, scope: &Scope, o: &Raw, s: &Raw) -> Result<Line, ExprStop
     let s = operand_of(alloc, scope, s, ty.get())?;
     Ok(Line {
         ty: Ty::Cell(a),
-        shape: LineShape::Hold {
-            o: o.into_inner(),
-            s: s.into_inner(),
-        },
+        shape: LineShape::Hold { o, s },
     })
 }
 
@@ -284,10 +268,7 @@ fn apply(alloc: Global, scope: &Scope, cf: &Raw, ca: &Raw) -> Result<Line, ExprS
     let ca = operand_of(alloc, scope, ca, ty.get())?;
     Ok(Line {
         ty: Ty::Cell(b),
-        shape: LineShape::Apply {
-            cf: cf.into_inner(),
-            ca: ca.into_inner(),
-        },
+        shape: LineShape::Apply { cf, ca },
     })
 }
 
@@ -303,7 +284,7 @@ fn switchs(alloc: Global, scope: &Scope, c: &Raw) -> Result<Line, ExprStop>
     let a = held_stream_item(ty.into_inner(), at)?;
     Ok(Line {
         ty: Ty::Stream(a),
-        shape: LineShape::Switchs { c: c.into_inner() },
+        shape: LineShape::Switchs { c },
     })
 }
 
@@ -319,7 +300,7 @@ fn switchc(alloc: Global, scope: &Scope, c: &Raw) -> Result<Line, ExprStop>
     let a = held_cell_item(ty.into_inner(), at)?;
     Ok(Line {
         ty: Ty::Cell(a),
-        shape: LineShape::Switchc { c: c.into_inner() },
+        shape: LineShape::Switchc { c },
     })
 }
 
@@ -388,23 +369,41 @@ pub fn shape_line(
     ensures scope { OnOk result (scope.new ≡ scope.old) }
 {
     match shape {
-        ShapeForm::Never { ty } => never(alloc, ty),
-        ShapeForm::Constant { o } => constant(alloc, scope, o),
-        ShapeForm::Map { x, s, e } => map(alloc, scope, codes, x, s, e),
-        ShapeForm::Mapc { x, c, e } => mapc(alloc, scope, codes, x, c, e),
-        ShapeForm::Filter { x, s, e } => filter(alloc, scope, codes, x, s, e),
-        ShapeForm::Merge { x, y, a, b, e } => merge(alloc, scope, codes, x, y, a, b, e),
-        ShapeForm::Snapshot { x, y, s, c, e } => snapshot(alloc, scope, codes, x, y, s, c, e),
-        ShapeForm::Split { s } => split(alloc, scope, s),
-        ShapeForm::Updates { c } => updates(alloc, scope, c),
-        ShapeForm::Value { c } => value(alloc, scope, c),
-        ShapeForm::Loops { ty } => stream_loop(alloc, scope, ty),
-        ShapeForm::Loopc { ty } => cell_loop(alloc, scope, ty),
-        ShapeForm::Hold { o, s } => hold(alloc, scope, o, s),
-        ShapeForm::Apply { cf, ca } => apply(alloc, scope, cf, ca),
-        ShapeForm::Switchs { c } => switchs(alloc, scope, c),
-        ShapeForm::Switchc { c } => switchc(alloc, scope, c),
-        ShapeForm::Execute { s, template, .. } => execute(alloc, scope, s, template),
+        ShapeForm::Never { ty } => never(alloc, ty.get()),
+        ShapeForm::Constant { o } => constant(alloc, scope, o.get()),
+        ShapeForm::Map { x, s, e } => map(alloc, scope, codes, x, s.get(), e.get()),
+        ShapeForm::Mapc { x, c, e } => mapc(alloc, scope, codes, x, c.get(), e.get()),
+        ShapeForm::Filter { x, s, e } => filter(alloc, scope, codes, x, s.get(), e.get()),
+        ShapeForm::Merge { x, y, a, b, e } => merge(
+            alloc,
+            scope,
+            codes,
+            x,
+            y,
+            a.get(),
+            b.get(),
+            e.get(),
+        ),
+        ShapeForm::Snapshot { x, y, s, c, e } => snapshot(
+            alloc,
+            scope,
+            codes,
+            x,
+            y,
+            s.get(),
+            c.get(),
+            e.get(),
+        ),
+        ShapeForm::Split { s } => split(alloc, scope, s.get()),
+        ShapeForm::Updates { c } => updates(alloc, scope, c.get()),
+        ShapeForm::Value { c } => value(alloc, scope, c.get()),
+        ShapeForm::Loops { ty } => stream_loop(alloc, scope, ty.get()),
+        ShapeForm::Loopc { ty } => cell_loop(alloc, scope, ty.get()),
+        ShapeForm::Hold { o, s } => hold(alloc, scope, o.get(), s.get()),
+        ShapeForm::Apply { cf, ca } => apply(alloc, scope, cf.get(), ca.get()),
+        ShapeForm::Switchs { c } => switchs(alloc, scope, c.get()),
+        ShapeForm::Switchc { c } => switchc(alloc, scope, c.get()),
+        ShapeForm::Execute { s, template, .. } => execute(alloc, scope, s.get(), template),
         _ => unreachable!(),
     }
 }

@@ -1,11 +1,11 @@
-use Rattle.std.proofs.Common.{◌≡◌, ◌-◌, ◌+◌, List, [], ◌∷◌, ◌++◌, Option, Some, None, Ok, Err, refl, sym, ap, ◌∙◌, arith}
+use Rattle.std.proofs.Common.{◌-◌, List, ◌∷◌, Ok, refl, sym, arith}
 use Rattle.std.proofs.lemmas.Result.{err_from_is_err_and}
 use Rattle.frp_lex.specs.declared.token.Token.{Token}
 use Rattle.frp_expr.specs.declared.raw.Raw.{Raw}
 use Rattle.frp_expr.specs.declared.raw.RawForm.TheVariants as f
-use Rattle.frp_form.specs.Gives.{Outcome, Parser, ◌>>=◌, Stops}
-use Rattle.frp_form.specs.Tokens.{spot, after_right}
-use Rattle.frp_form.specs.Lists.{items, behind}
+use Rattle.frp_form.specs.Gives.{Outcome, Parser}
+use Rattle.frp_form.specs.Tokens.{after_right}
+use Rattle.frp_form.specs.Lists.{behind}
 use Rattle.frp_form.specs.Heads.{raw_at}
 use Rattle.frp_form.specs.Exprs.{too_many, expr_list, list_at, close_at, expr_at}
 use Rattle.frp_form.proofs.ListLemmas.{then_stops, behind_none, one_first, first_stops, goes_on, fails, stops, is_full}

@@ -1,6 +1,6 @@
-use Rattle.std.proofs.Common.{◌≡◌, ◌-◌, ◌+◌, List, [], ◌∷◌, ◌++◌, Option, Some, None, Ok, Err, refl, sym, ap, ◌∙◌, arith}
+use Rattle.std.proofs.Common.{◌≡◌, ◌-◌, sym, arith}
 use Rattle.std.proofs.lemmas.Result.{err_from_is_err_and}
-use Rattle.frp_form.specs.Lists.{items, behind, over_at}
+use Rattle.frp_form.specs.Lists.{items, over_at}
 use Rattle.frp_form.proofs.ListLemmas.{behind_none, goes_on, fails, stops, is_full}
 use Rattle.frp_form.proofs.lists.items.Goals as goal
 

@@ -1,7 +1,5 @@
-use Rattle.std.proofs.Common.{◌≡◌, ◌++◌, ◌≤◌, ◌+◌, drop, map, length}
-use Rattle.frp_type.specs.Known.{nothing, all_declared}
-use Rattle.frp_type.specs.Meaning.{each, lines_of, codes_of, ties_of, funs_of}
-use Rattle.frp_type.specs.States.{known_of, Left}
+use Rattle.std.proofs.Common.{◌≤◌, drop, length}
+use Rattle.frp_type.specs.States.{Left}
 use Rattle.frp_type.proofs.checking.all_declared.Given as goal
 
 abbrev pub invariant-loop-d : goal.invariant-loop-d

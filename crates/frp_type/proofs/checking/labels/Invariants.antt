@@ -1,4 +1,4 @@
-use Rattle.std.proofs.Common.{◌≡◌, ◌++◌, ◌≤◌, ◌+◌, drop, map, length}
+use Rattle.std.proofs.Common.{◌≡◌, ◌++◌, drop}
 use Rattle.frp_type.specs.Meaning.{labels_from}
 use Rattle.frp_type.proofs.checking.labels.Given as goal
 

@@ -1,4 +1,4 @@
-use Rattle.std.proofs.Common.{◌≡◌, ◌++◌, ◌≤◌, ◌+◌, drop, map, length}
+use Rattle.std.proofs.Common.{◌≡◌, ◌++◌, drop, map}
 use Rattle.frp_type.specs.Faults.{listened}
 use Rattle.frp_type.specs.Meaning.{node_named}
 use Rattle.frp_type.specs.States.{known_of}

@@ -1,4 +1,4 @@
-use Rattle.std.proofs.Common.{◌≡◌, ◌++◌, ◌≤◌, ◌+◌, drop, map, length}
+use Rattle.std.proofs.Common.{◌≡◌, ◌++◌, drop, map}
 use Rattle.frp_type.specs.Faults.{all_sent}
 use Rattle.frp_type.specs.Meaning.{sent_over}
 use Rattle.frp_type.specs.States.{known_of}

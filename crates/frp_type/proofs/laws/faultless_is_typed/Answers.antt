@@ -1,4 +1,3 @@
-use Rattle.std.proofs.Common.{◌≡◌}
 use Rattle.frp_type.proofs.TypedFiles.{faultless}
 use Rattle.frp_type.proofs.laws.faultless_is_typed.Goals as goal
 

@@ -1,5 +1,0 @@
-use Rattle.frp_form.proofs.RoundTrip.{canonical_tells_lem}
-use Rattle.frp_form.proofs.round_trip.canonical_tells.Goals as goal
-
-pub returns : goal.returns
-returns c = canonical_tells_lem

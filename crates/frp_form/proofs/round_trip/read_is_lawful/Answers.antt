@@ -1,5 +1,0 @@
-use Rattle.frp_form.proofs.RoundTrip.{read_is_lawful_lem}
-use Rattle.frp_form.proofs.round_trip.read_is_lawful.Goals as goal
-
-pub returns : goal.returns
-returns c = read_is_lawful_lem

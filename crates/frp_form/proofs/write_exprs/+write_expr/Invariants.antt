@@ -1,6 +1,0 @@
-use Rattle.std.proofs.Common.{◌≡◌, ◌++◌, drop, map}
-use Rattle.frp_form.specs.Writing.{joined, expr_kinds}
-use Rattle.frp_form.proofs.write_exprs.+write_expr.Given as goal
-
-abbrev pub invariant-write_exprs-loop-expr : goal.invariant-write_exprs-loop-expr
-invariant-write_exprs-loop-expr l = l.out ++ joined (map expr_kinds (drop l.expr-index l.exprs)) ≡ l.fn.out ++ joined (map expr_kinds l.fn.exprs)

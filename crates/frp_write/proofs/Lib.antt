@@ -1,0 +1,14 @@
+pub mod Splitting
+pub mod Placed
+pub mod PlacedTypes
+pub mod PlacedExprs
+pub mod PlacedShapes
+pub mod PlacedDecls
+pub mod PlacedFile
+pub mod Lines
+pub mod LawfulTokens
+pub mod LevelLemmas
+pub mod StepLemmas
+pub mod ReadTypes
+pub mod ReadFiles
+pub mod RoundTrip

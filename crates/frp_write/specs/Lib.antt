@@ -1,0 +1,4 @@
+pub mod Writing
+pub mod Lawful
+pub mod Places
+pub mod RoundTrip
