@@ -1,5 +1,5 @@
-//! Runs the graphs of the folder `examples` by both modes, and a graph of a node more than the limit allows, and compares what is
-//! written with what is expected.
+//! Runs the graphs of the folder `examples` by both modes, a graph of as many nodes as the limit allows, and one of a node
+//! more, and compares what is written with what is expected.
 #![tactic(auto)]
 
 mod limit;
@@ -26,7 +26,11 @@ fn main(rt: HostRuntime) -> io::Result<()> {
             println!(rt; "{name} by {mode}: {}", word(is_right))?;
         }
     }
-    let input = limit::graph_past_it(alloc)?.into_bytes();
+    let input = limit::graph_at_it(alloc, "")?.into_bytes();
+    let expected = limit::report_at_it(alloc)?;
+    let is_right = gives(alloc, "replay", input, 0, expected.as_bytes())?;
+    println!(rt; "65,536 nodes: {}", word(is_right))?;
+    let input = limit::graph_at_it(alloc, "(sink more Int)")?.into_bytes();
     let is_right = gives(alloc, "replay", input, 6, b"refused build 5\n")?;
     println!(rt; "65,537 nodes: {}", word(is_right))?;
     Ok(())
