@@ -18,35 +18,58 @@ fn name(alloc: Global, at: u64, text: &str) -> Result<Boxed<Raw>, Memory> {
     raw(alloc, at, RawForm::Name(spot(alloc, at, text)?.text))
 }
 
-/// `(graph (sink a TYPE) (let b (map x a (add x 1))))`, with a type at place 15 of as many letters as `Bool`.
-fn file(alloc: Global, ty: TyForm, listened: &str) -> Result<File, Memory> {
+/// `(sink a TYPE)`.
+fn sink(alloc: Global, ty: TyForm) -> Result<Item, Memory> {
+    let ty = Boxed::new(alloc, RawTy { at: 15, form: ty })?;
+    let name = spot(alloc, 13, "a")?;
+    let form = ItemForm::Sink { name, ty };
+    Ok(Item { at: 7, form })
+}
+
+/// `(add x 1)`.
+fn sum(alloc: Global) -> Result<Boxed<Raw>, Memory> {
+    let x = name(alloc, 42, "x")?;
+    let one = raw(alloc, 44, RawForm::Int(1))?;
+    raw(alloc, 37, RawForm::Add(x, one))
+}
+
+/// `(map x a (add x 1))`.
+fn map(alloc: Global) -> Result<Boxed<RawShape>, Memory> {
+    let x = spot(alloc, 33, "x")?;
+    let s = name(alloc, 35, "a")?;
+    let e = sum(alloc)?;
+    let form = ShapeForm::Map { x, s, e };
+    Boxed::new(alloc, RawShape { at: 28, form })
+}
+
+/// `(let b (map x a (add x 1)))`.
+fn bound(alloc: Global) -> Result<Item, Memory> {
+    let name = spot(alloc, 26, "b")?;
+    let shape = map(alloc)?;
+    let form = ItemForm::Let { name, shape };
+    Ok(Item { at: 21, form })
+}
+
+/// Both items, in order.
+fn items(alloc: Global, ty: TyForm) -> Result<Seq<Decl>, Memory> {
     let mut decls = Seq::new(alloc);
-    decls.add(Decl::Item(Item {
-        at: 7,
-        form: ItemForm::Sink {
-            name: spot(alloc, 13, "a")?,
-            ty: Boxed::new(alloc, RawTy { at: 15, form: ty })?,
-        },
-    }))?;
-    let sum = RawForm::Add(name(alloc, 42, "x")?, raw(alloc, 44, RawForm::Int(1))?);
-    let form = ShapeForm::Map {
-        x: spot(alloc, 33, "x")?,
-        s: name(alloc, 35, "a")?,
-        e: raw(alloc, 37, sum)?,
-    };
-    let shape = Boxed::new(alloc, RawShape { at: 28, form })?;
-    decls.add(Decl::Item(Item {
-        at: 21,
-        form: ItemForm::Let {
-            name: spot(alloc, 26, "b")?,
-            shape,
-        },
-    }))?;
+    decls.add(Decl::Item(sink(alloc, ty)?))?;
+    decls.add(Decl::Item(bound(alloc)?))?;
+    Ok(decls)
+}
+
+/// `(listen NAME)`.
+fn listens(alloc: Global, listened: &str) -> Result<Seq<Listen>, Memory> {
+    let name = spot(alloc, 58, listened)?;
     let mut listens = Seq::new(alloc);
-    listens.add(Listen {
-        at: 50,
-        name: spot(alloc, 58, listened)?,
-    })?;
+    listens.add(Listen { at: 50, name })?;
+    Ok(listens)
+}
+
+/// `(graph (sink a TYPE) (let b (map x a (add x 1))))`, with a type at place 15 of as many letters as `Bool`, and a listen.
+fn file(alloc: Global, ty: TyForm, listened: &str) -> Result<File, Memory> {
+    let decls = items(alloc, ty)?;
+    let listens = listens(alloc, listened)?;
     Ok(File {
         graph: Graph { at: 0, decls },
         listens,
