@@ -5,7 +5,7 @@
 //! - `typed (graph (sink a Int)) = #0 a (Stream Int)` is a file of core items without a fault, and the labels of its nodes
 //!   between commas. Where there are none, they and ` = ` are left out: `typed (graph)`.
 //! - `expected (graph ^sink)` is an input with a first fault of the kind `expected` at the mark `^`, which is taken out before
-//!   the input is read. Names and types are looked at only where the kind is a fault of theirs.
+//!   the input is read. Names and types are looked at only where the kind is `typed` or a fault of theirs.
 //!
 //! In the input and the canonical text `\n` is a line feed, `\\` is a backslash, and `\*32*ab*` is `ab`, 32 times; no repetition
 //! and no `*` stands within it. Any number of senders is read; where the line begins with `replay `, one alone. A line that
