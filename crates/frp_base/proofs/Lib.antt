@@ -1,5 +1,6 @@
 pub mod NameLemmas
 pub mod OrderLemmas
+pub mod Booleans
 pub mod TextLemmas
 pub mod TimeLemmas
 pub mod TyLemmas

@@ -21,6 +21,7 @@ layer_decides (t.List x) (t.List u) = (λ h. ap t.List ((x.1 u).0 h), λ h. (x.1
 layer_decides (t.Stream x) (t.Stream u) = (λ h. ap t.Stream ((x.1 u).0 h), λ h. (x.1 u).1 (cc))
 layer_decides (t.Cell x) (t.Cell u) = (λ h. ap t.Cell ((x.1 u).0 h), λ h. (x.1 u).1 (cc))
 layer_decides (t.Fun x y) (t.Fun u w) = both _ _ (x.0 ≡ u) (y.0 ≡ w) _ (x.1 u) (y.1 w) (λ h. cc) (λ h. cc) (λ p q. cc)
+layer_decides (t.Option x) (t.Option u) = (λ h. ap t.Option ((x.1 u).0 h), λ h. (x.1 u).1 (cc))
 layer_decides _ _ = (λ h. absurd (cc), λ h. absurd (cc))
 
 rolled : (y : Ty-F Such) (u : Ty) → let x : Ty-F Ty = map-Ty Such Ty (λ e. e.0) y in Decides (ty_eq (roll-Ty x) u) (roll-Ty x ≡ u)

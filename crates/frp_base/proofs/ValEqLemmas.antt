@@ -1,5 +1,7 @@
 -- the test of equality of values decides equality
-use Rattle.std.proofs.Common.{◌≡◌, List, [], ◌∷◌, Bool, refl, ap, sym, ◌∙◌, subst, map}
+use Rattle.std.proofs.Common.{◌≡◌, suc, List, [], ◌∷◌, Bool, true, false, refl, ap, sym, ◌∙◌, subst, length, map}
+use Rattle.std.specs.Prelude.{◌&&◌}
+use Rattle.std.proofs.Math.Bool.{and-false}
 use Rattle.std.specs.Bool.{Decides}
 use Rattle.std.specs.Cmp.{unsigned_Decides, booleans_Decides, signed_Decides}
 use lib.Pointwise.{pointwise_decides}
@@ -9,6 +11,13 @@ use Rattle.frp_base.specs.declared.val.Val.TheOpen as v
 use Rattle.frp_base.specs.declared.val.Val.TheFolds.{fold-roll-Val, map-Val, ind-Val}
 use Rattle.frp_base.proofs.NameLemmas.{both, name_decides}
 use Rattle.frp_base.specs.Val.{items_eq, val_layer_eq, val_eq}
+
+-- lists of tests and of values that are not as long are not equal
+pub uneven : (fs : List (Val → Bool)) (ws : List Val) → (length fs ≡ length ws → ⊥) → items_eq fs ws ≡ false
+uneven [] [] h = absurd (h refl)
+uneven [] (w ∷ ws) h = refl
+uneven (f ∷ fs) [] h = refl
+uneven (f ∷ fs) (w ∷ ws) h = ap (λ b. f w && b) (uneven fs ws (λ e. h (ap suc e))) ∙ and-false (f w)
 
 -- a value, with the fact for it
 abbrev Such : Type 0
@@ -30,6 +39,8 @@ layer_decides (v.List ys) (v.List ws) = (λ h. ap v.List ((items_decide ys ws).0
 layer_decides (v.Stream a) (v.Stream b) = (λ h. ap v.Stream ((name_decides a b).0 h), λ h. (name_decides a b).1 (cc))
 layer_decides (v.Cell a) (v.Cell b) = (λ h. ap v.Cell ((name_decides a b).0 h), λ h. (name_decides a b).1 (cc))
 layer_decides (v.Fun f ys) (v.Fun g ws) = both _ _ (f ≡ g) (map (λ (y : Such). y.0) ys ≡ ws) _ (unsigned_Decides f g) (items_decide ys ws) (λ h. cc) (λ h. cc) (λ p q. cc)
+layer_decides v.Absent v.Absent = (λ h. refl, λ h. refl)
+layer_decides (v.Present x) (v.Present w) = (λ h. ap v.Present ((x.1 w).0 h), λ h. (x.1 w).1 (cc))
 layer_decides _ _ = (λ h. absurd (cc), λ h. absurd (cc))
 
 rolled : (y : Val-F Such) (w : Val) → let x : Val-F Val = map-Val Such Val (λ e. e.0) y in Decides (val_eq (roll-Val x) w) (roll-Val x ≡ w)

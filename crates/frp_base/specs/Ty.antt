@@ -15,6 +15,7 @@ ty_layer_eq (t.List f) (t.List x) = f x
 ty_layer_eq (t.Stream f) (t.Stream x) = f x
 ty_layer_eq (t.Cell f) (t.Cell x) = f x
 ty_layer_eq (t.Fun f g) (t.Fun x y) = f x && g y
+ty_layer_eq (t.Option f) (t.Option x) = f x
 ty_layer_eq _ _ = false
 
 -- whether two types are one
@@ -31,6 +32,7 @@ ty_text_of (t.List x) = codes "(List " ++ x ++ codes ")"
 ty_text_of (t.Stream x) = codes "(Stream " ++ x ++ codes ")"
 ty_text_of (t.Cell x) = codes "(Cell " ++ x ++ codes ")"
 ty_text_of (t.Fun x y) = codes "(Fun " ++ x ++ codes " " ++ y ++ codes ")"
+ty_text_of (t.Option x) = codes "(Option " ++ x ++ codes ")"
 
 abbrev pub ty_text : Ty → List ℕ
 ty_text = fold-Ty (List ℕ) ty_text_of

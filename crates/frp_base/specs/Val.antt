@@ -26,6 +26,8 @@ val_layer_eq (v.List fs) (v.List xs) = items_eq fs xs
 val_layer_eq (v.Stream a) (v.Stream b) = name_eq a b
 val_layer_eq (v.Cell a) (v.Cell b) = name_eq a b
 val_layer_eq (v.Fun f fs) (v.Fun g xs) = f == g && items_eq fs xs
+val_layer_eq v.Absent v.Absent = true
+val_layer_eq (v.Present f) (v.Present x) = f x
 val_layer_eq _ _ = false
 
 -- whether two values are one
@@ -55,6 +57,8 @@ val_text_of (v.List ts) = codes "(list" ++ spaced ts ++ codes ")"
 val_text_of (v.Stream n) = codes "(stream " ++ name_text n ++ codes ")"
 val_text_of (v.Cell n) = codes "(cell " ++ name_text n ++ codes ")"
 val_text_of (v.Fun f ts) = codes "(fun " ++ decimal f ++ spaced ts ++ codes ")"
+val_text_of v.Absent = codes "none"
+val_text_of (v.Present x) = codes "(some " ++ x ++ codes ")"
 
 abbrev pub val_text : Val → List ℕ
 val_text = fold-Val (List ℕ) val_text_of

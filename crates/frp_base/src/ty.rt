@@ -6,7 +6,8 @@ use crate::memory::Memory;
 use crate::text::Text;
 use std::alloc::Global;
 
-/// A type of values. `Pair`, `List` and `Fun` hold the types of their parts, `Stream` and `Cell` that of what they carry.
+/// A type of values. `Pair`, `List` and `Fun` hold the types of their parts, `Stream` and `Cell` that of what they carry, and
+/// `Option` that of a value that may be absent.
 #[derive(Drop, PartialEq)]
 pub enum Ty {
     Int,
@@ -17,6 +18,7 @@ pub enum Ty {
     Stream(Boxed<Ty>),
     Cell(Boxed<Ty>),
     Fun(Boxed<Ty>, Boxed<Ty>),
+    Option(Boxed<Ty>),
 }
 
 impl Ty {
@@ -41,6 +43,7 @@ impl Ty {
                 let to = Boxed::new(alloc, to.get().copy(alloc)?)?;
                 Ok(Ty::Fun(from, to))
             }
+            Ty::Option(item) => Ok(Ty::Option(Boxed::new(alloc, item.get().copy(alloc)?)?)),
         }
     }
 
@@ -53,7 +56,7 @@ impl Ty {
     }
 
     fn same(&self, other: &Ty) -> bool
-        ensures { IsTrue result ↔ (self.now ≡ other.now) }
+        ensures { result ≡ ty_eq self.now other.now }
     {
         match self {
             Ty::Int => matches!(other, Ty::Int),
@@ -66,11 +69,12 @@ impl Ty {
             Ty::Cell(a) => matches!(other, Ty::Cell(b) if a.get().same(b.get())),
             Ty::Fun(a, b) =>
                 matches!(other, Ty::Fun(c, d) if a.get().same(c.get()) && b.get().same(d.get())),
+            Ty::Option(a) => matches!(other, Ty::Option(b) if a.get().same(b.get())),
         }
     }
 
     /// Appends the text of the type, as `Int`, `Bool`, `Text`, `(Pair Int Bool)`, `(List Int)`, `(Stream Int)`,
-    /// `(Cell Int)` and `(Fun Int Bool)`. Where memory is wanting, the text is as before.
+    /// `(Cell Int)`, `(Fun Int Bool)` and `(Option Int)`. Where memory is wanting, the text is as before.
     pub fn show(&self, alloc: Global, out: &mut Text) -> Result<(), Memory>
         ensures ok { OnOk result (out.new ≡ out.old ++ ty_text self.now) }
         ensures err { OnErr result (out.new ≡ out.old) }
@@ -115,6 +119,11 @@ impl Ty {
                 from.get().write(alloc, out)?;
                 out.push_str(" ")?;
                 to.get().write(alloc, out)?;
+                out.push_str(")")
+            }
+            Ty::Option(item) => {
+                out.push_str("(Option ")?;
+                item.get().write(alloc, out)?;
                 out.push_str(")")
             }
         }

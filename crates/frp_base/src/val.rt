@@ -1,5 +1,7 @@
-ghost use Rattle.std.specs.Prelude.{◌≡◌, ◌↔◌, [], ◌∷◌, ◌++◌, IsTrue, map, encode_utf8, IfOk, OnOk, OnErr};
-ghost use Rattle.frp_base.specs.Val.{val_eq, val_text, spaced, mark, escaped};
+ghost use Rattle.std.specs.Prelude.{◌≡◌, ◌↔◌, [], ◌∷◌, ◌++◌, IsTrue, map, codes, encode_utf8, IfOk, OnOk, OnErr};
+ghost use Rattle.std.specs.Fmt.{decimal};
+ghost use Rattle.frp_base.specs.Name.{name_text};
+ghost use Rattle.frp_base.specs.Val.{items_eq, val_eq, val_text, spaced, mark, escaped};
 
 use crate::boxed::Boxed;
 use crate::memory::Memory;
@@ -9,7 +11,7 @@ use crate::text::Text;
 use std::alloc::Global;
 
 /// A value. `Stream` and `Cell` are references to a node, and `Fun` is a function value: the number of a declared
-/// function, from 0, and its kept values.
+/// function, from 0, and its kept values. `Absent` and `Present` are the optional values: none, and one that is there.
 #[derive(Drop, PartialEq)]
 pub enum Val {
     Int(i64),
@@ -20,6 +22,8 @@ pub enum Val {
     Stream(Name),
     Cell(Name),
     Fun(u32, Seq<Val>),
+    Absent,
+    Present(Boxed<Val>),
 }
 
 impl Val {
@@ -41,6 +45,8 @@ impl Val {
             Val::Stream(n) => Ok(Val::Stream(n.copy()?)),
             Val::Cell(n) => Ok(Val::Cell(n.copy()?)),
             Val::Fun(f, kept) => Ok(Val::Fun(*f, copy_all(alloc, kept.as_slice())?)),
+            Val::Absent => Ok(Val::Absent),
+            Val::Present(x) => Ok(Val::Present(Boxed::new(alloc, x.get().copy(alloc)?)?)),
         }
     }
 
@@ -54,7 +60,7 @@ impl Val {
 
     #[cycle(same)]
     fn same(&self, other: &Val) -> bool
-        ensures { IsTrue result ↔ (self.now ≡ other.now) }
+        ensures { result ≡ val_eq self.now other.now }
     {
         match self {
             Val::Int(a) => matches!(other, Val::Int(b) if a == b),
@@ -67,11 +73,13 @@ impl Val {
             Val::Cell(a) => matches!(other, Val::Cell(b) if a.is(b)),
             Val::Fun(f, a) =>
                 matches!(other, Val::Fun(g, b) if f == g && all_are(a.as_slice(), b.as_slice())),
+            Val::Absent => matches!(other, Val::Absent),
+            Val::Present(a) => matches!(other, Val::Present(b) if a.get().same(b.get())),
         }
     }
 
-    /// Appends the text of the value, as `-3`, `true`, `"a\"b"`, `(pair 1 2)`, `(list 1 2)`, `(stream #1)`, `(cell #2)`
-    /// and `(fun 0 7)`. Where memory is wanting, the text is as before.
+    /// Appends the text of the value, as `-3`, `true`, `"a\"b"`, `(pair 1 2)`, `(list 1 2)`, `(stream #1)`, `(cell #2)`,
+    /// `(fun 0 7)`, `none` and `(some 3)`. Where memory is wanting, the text is as before.
     pub fn show(&self, alloc: Global, out: &mut Text) -> Result<(), Memory>
         ensures ok { OnOk result (out.new ≡ out.old ++ val_text self.now) }
         ensures err { OnErr result (out.new ≡ out.old) }
@@ -97,35 +105,54 @@ impl Val {
                 y.get().write(alloc, out)?;
                 out.push_str(")")
             }
-            Val::List(items) => {
-                out.push_str("(list")?;
-                show_all(alloc, items.as_slice(), out)?;
-                out.push_str(")")
-            }
-            Val::Stream(n) => {
-                out.push_str("(stream ")?;
-                n.write(out)?;
-                out.push_str(")")
-            }
-            Val::Cell(n) => {
-                out.push_str("(cell ")?;
-                n.write(out)?;
-                out.push_str(")")
-            }
-            Val::Fun(f, kept) => {
-                out.push_str("(fun ")?;
-                out.push_str(f.to_string(alloc)?.as_str())?;
-                show_all(alloc, kept.as_slice(), out)?;
+            Val::List(items) => write_list(alloc, items.as_slice(), out),
+            Val::Stream(n) => write_reference("(stream ", n, out),
+            Val::Cell(n) => write_reference("(cell ", n, out),
+            Val::Fun(f, kept) => write_fun(alloc, *f, kept.as_slice(), out),
+            Val::Absent => out.push_str("none"),
+            Val::Present(x) => {
+                out.push_str("(some ")?;
+                x.get().write(alloc, out)?;
                 out.push_str(")")
             }
         }
     }
 }
 
+/// Appends the text of a list of the items.
+#[cycle(write)]
+fn write_list(alloc: Global, items: &[Val], out: &mut Text) -> Result<(), Memory>
+    ensures { OnOk result (out.new ≡ out.old ++ codes "(list" ++ spaced (map val_text items.now) ++ codes ")") }
+{
+    out.push_str("(list")?;
+    show_all(alloc, items, out)?;
+    out.push_str(")")
+}
+
+/// Appends the text of a reference to a node: the head with its blank, and the node's name.
+fn write_reference(head: &str, name: &Name, out: &mut Text) -> Result<(), Memory>
+    ensures { OnOk result (out.new ≡ out.old ++ head.now ++ name_text name.now ++ codes ")") }
+{
+    out.push_str(head)?;
+    name.write(out)?;
+    out.push_str(")")
+}
+
+/// Appends the text of a function value: the function's number and its kept values.
+#[cycle(write)]
+fn write_fun(alloc: Global, f: u32, kept: &[Val], out: &mut Text) -> Result<(), Memory>
+    ensures { OnOk result (out.new ≡ out.old ++ codes "(fun " ++ decimal f ++ spaced (map val_text kept.now) ++ codes ")") }
+{
+    out.push_str("(fun ")?;
+    out.push_str(f.to_string(alloc)?.as_str())?;
+    show_all(alloc, kept, out)?;
+    out.push_str(")")
+}
+
 /// Whether two lists of values are one.
 #[cycle(same)]
 fn all_are(values: &[Val], others: &[Val]) -> bool
-    ensures { IsTrue result ↔ (values.now ≡ others.now) }
+    ensures { result ≡ items_eq (map val_eq values.now) others.now }
 {
     if values.len() != others.len() {
         return false;

@@ -11,11 +11,11 @@ use Rattle.frp_graph.specs.declared.shape.Shape.{Shape}
 use Rattle.frp_graph.specs.declared.shape.Shape.TheVariants.{Sink, Never, Map, Filter, Hold}
 use Rattle.frp_graph.specs.declared.evidence.Phase.{Phase}
 use Rattle.frp_graph.specs.declared.evidence.Phase.TheVariants.{Birth, During, After}
-use Rattle.frp_graph.specs.Trace.{Sight, node_in, post_in}
+use Rattle.frp_graph.specs.Births.{execution}
+use Rattle.frp_graph.specs.Trace.{Sight, Each, node_in, post_in}
 use Rattle.frp_graph.specs.Links.{is_new, is_new_cell, during_links, after_links, birth_links, links_by, links_from, is_linked_by, is_linked, IsChainless}
 use Rattle.frp_graph.proofs.Lists.{either_true, chosen, name_same}
 use Rattle.frp_graph.proofs.Chains.{LeadsLower, no_chain}
-use Rattle.frp_graph.proofs.FileBirths.{is_execute, has_execute}
 use Rattle.frp_core.specs.Small.{IsEarlier, IsSmall, AreSmallFrom}
 use Rattle.frp_core.proofs.Times.{all_both}
 
@@ -55,8 +55,8 @@ no_births b k p ns e = subst (λ (ns : List Name). AreEarlier k (if b then filte
   none true = tt
   none false = tt
 
-module _ (nodes : List Node) (w : Sight) (after : Name → Option Val) where
-  during_earlier : (k : ℕ) (s : Shape) → IsSmall k s → AreEarlier k (during_links nodes w after s)
+module _ (w : Sight) (after : Name → Option Val) where
+  during_earlier : (k : ℕ) (s : Shape) → IsSmall k s → AreEarlier k (during_links w after s)
   during_earlier k Sink h = tt
   during_earlier k Never h = tt
   during_earlier k (Map f s) h = (h, tt)
@@ -64,7 +64,7 @@ module _ (nodes : List Node) (w : Sight) (after : Name → Option Val) where
   during_earlier k (Hold s) h = (h, tt)
   during_earlier k _ h = absurd h
 
-  after_earlier : (k : ℕ) (s : Shape) → IsSmall k s → AreEarlier k (after_links nodes w after s)
+  after_earlier : (k : ℕ) (s : Shape) → IsSmall k s → AreEarlier k (after_links w after s)
   after_earlier k Sink h = tt
   after_earlier k Never h = tt
   after_earlier k (Map f s) h = (h, tt)
@@ -72,7 +72,7 @@ module _ (nodes : List Node) (w : Sight) (after : Name → Option Val) where
   after_earlier k (Hold s) h = (h, tt)
   after_earlier k _ h = absurd h
 
-  birth_none : (k : ℕ) (s : Shape) → IsSmall k s → birth_links nodes w after s ≡ []
+  birth_none : (k : ℕ) (s : Shape) → IsSmall k s → birth_links w after s ≡ []
   birth_none k Sink h = refl
   birth_none k Never h = refl
   birth_none k (Map f s) h = refl
@@ -80,10 +80,10 @@ module _ (nodes : List Node) (w : Sight) (after : Name → Option Val) where
   birth_none k (Hold s) h = refl
   birth_none k _ h = absurd h
 
-  links_earlier : (phase : Phase) (x : Node) (k : ℕ) → x.name ≡ declared_name k → IsSmall k x.shape → AreEarlier k (links_by nodes w after phase x)
-  links_earlier During x k e h = all_both (IsEarlier k) (during_links nodes w after x.shape) _ (during_earlier k x.shape h) (no_maker (is_new w x.name) k x.name e)
+  links_earlier : (phase : Phase) (x : Node) (k : ℕ) → x.name ≡ declared_name k → IsSmall k x.shape → AreEarlier k (links_by w after phase x)
+  links_earlier During x k e h = all_both (IsEarlier k) (during_links w after x.shape) _ (during_earlier k x.shape h) (no_maker (is_new w x.name) k x.name e)
   links_earlier After x k e h = after_earlier k x.shape h
-  links_earlier Birth x k e h = no_births (is_new_cell w (Some x)) k (λ n. is_new_cell w (node_in nodes n)) (birth_links nodes w after x.shape) (birth_none k x.shape h)
+  links_earlier Birth x k e h = no_births (is_new_cell w (Some x)) k (λ n. is_new_cell w (w.node n)) (birth_links w after x.shape) (birth_none k x.shape h)
 
   leads : (b : Name) (k : ℕ) (ns : List Name) → AreEarlier k ns → list_any (λ n. name_eq n b) ns ≡ true → item_of b < k
   leads b k [] h t = absurd cc
@@ -96,22 +96,22 @@ module _ (nodes : List Node) (w : Sight) (after : Name → Option Val) where
   ]
 
   -- so the items of linked nodes fall
-  lower : AreSmallFrom 0 nodes → (phase : Phase) → LeadsLower (is_linked_by nodes w after phase) item_of
-  lower small phase a b h = from (node_in nodes a) refl h where
-    from : (o : Option Node) → node_in nodes a ≡ o → list_any (λ n. name_eq n b) (links_from nodes w after phase o) ≡ true → item_of b < item_of a
+  lower : (nodes : List Node) → ((n : Name) → w.node n ≡ node_in nodes n) → AreSmallFrom 0 nodes → (phase : Phase) → LeadsLower (is_linked_by w after phase) item_of
+  lower nodes same small phase a b h = from (w.node a) refl h where
+    from : (o : Option Node) → w.node a ≡ o → list_any (λ n. name_eq n b) (links_from w after phase o) ≡ true → item_of b < item_of a
     from None e h = absurd cc
     from (Some x) e h =
-        let f : IsFound a x = found 0 nodes a x small e in
-        let l : item_of b < f.item = leads b f.item (links_by nodes w after phase x) (links_earlier phase x f.item f.named f.small) h in
+        let f : IsFound a x = found 0 nodes a x small (sym (same a) ∙ e) in
+        let l : item_of b < f.item = leads b f.item (links_by w after phase x) (links_earlier phase x f.item f.named f.small) h in
         let i : item_of a ≡ f.item = ap item_of f.looked in
         omega arith
 
-pub chainless : (nodes : List Node) (w : Sight) → AreSmallFrom 0 nodes → IsChainless nodes w
-chainless nodes w small = λ phase names. no_chain (is_linked nodes w phase) item_of (lower nodes w (post_in w) small phase) names
+pub chainless : (w : Sight) (nodes : List Node) → ((n : Name) → w.node n ≡ node_in nodes n) → AreSmallFrom 0 nodes → IsChainless w
+chainless w nodes same small = λ phase names. no_chain (is_linked w phase) item_of (lower w (post_in w) nodes same small phase) names
 
 -- Executes.
 
-not_execute : (k : ℕ) (s : Shape) → IsSmall k s → is_execute s ≡ false
+not_execute : (k : ℕ) (s : Shape) → IsSmall k s → execution s ≡ None
 not_execute k Sink h = refl
 not_execute k Never h = refl
 not_execute k (Map f s) h = refl
@@ -119,6 +119,5 @@ not_execute k (Filter f s) h = refl
 not_execute k (Hold s) h = refl
 not_execute k _ h = absurd h
 
-pub no_execute : (k : ℕ) (xs : List Node) → AreSmallFrom k xs → has_execute xs ≡ false
-no_execute k [] s = refl
-no_execute k (x ∷ xs) s = rw (not_execute k x.shape s.1) (no_execute (k + 1) xs s.2)
+pub no_execute : (w : Sight) (nodes : List Node) → ((n : Name) → w.node n ≡ node_in nodes n) → AreSmallFrom 0 nodes → Each w (λ x. execution x.shape ≡ None)
+no_execute w nodes same small n x e = let f : IsFound n x = found 0 nodes n x small (sym (same n) ∙ e) in not_execute f.item x.shape f.small

@@ -1,58 +1,61 @@
 -- A core stays one as entries are added.
-use Rattle.std.proofs.Common.{◌≡◌, ℕ, ◌+◌, ◌<◌, ◌≤◌, suc, zero, Bool, true, false, List, [], ◌∷◌, ◌++◌, cond, map, length, drop, Option, Some, None, refl, sym, ap, ◌∙◌, subst, arith, inl, inr, length-append}
-use Rattle.std.specs.Prelude.{Result, Ok, Err, OnOk, slice_get, IsSomeAnd, IsSome, is_some, filter, ◌==◌, ◌&&◌}
+use Rattle.std.proofs.Common.{◌≡◌, ℕ, ◌+◌, ◌<◌, ◌≤◌, suc, zero, Bool, true, false, List, [], ◌∷◌, ◌++◌, cond, map, length, drop, Option, Some, None, refl, sym, ap, ◌∙◌, subst, arith, inl, inr}
+use Rattle.std.specs.Prelude.{Result, Ok, Err, OnOk, OnErr, is_ok, MatchOption, slice_get, IsSomeAnd, IsSome, is_some, ◌==◌}
 use Rattle.std.specs.List.{AllByRecursion, list_any, list_all}
 use Rattle.std.proofs.lemmas.Bool.{cases_Bool}
 use Rattle.std.proofs.lemmas.Bool.Decides.{nat_tests}
+use Rattle.std.proofs.lemmas.List.{append-nil, map-append}
+use Rattle.std.proofs.lemmas.List.Elements.{filter-append}
 use Rattle.frp_base.specs.declared.name.Name.{Name}
 use Rattle.frp_base.specs.Time.{time_eq}
-use Rattle.frp_expr.proofs.Tests.{both_true, true_both}
+use Rattle.frp_base.proofs.Booleans.{both_true}
 use Rattle.frp_graph.specs.declared.prog.Prog.{Prog}
 use Rattle.frp_graph.specs.declared.trace.Node.{Node}
 use Rattle.frp_graph.specs.declared.trace.Fact.{Fact}
 use Rattle.frp_graph.specs.declared.trace.Moment.{Moment}
-use Rattle.frp_graph.specs.declared.history.Key.{Key}
-use Rattle.frp_graph.specs.declared.history.Delivered.{Delivered}
-use Rattle.frp_graph.specs.declared.history.Cmd.{Cmd}
-use Rattle.frp_graph.specs.declared.history.Cmd.TheVariants.{Send, Join, Take, Leave}
-use Rattle.frp_graph.specs.declared.history.No.{No}
-use Rattle.frp_graph.specs.declared.history.Reply.{Reply}
-use Rattle.frp_graph.specs.declared.history.Reply.TheVariants.{Accepted, Refused, Joined, Given, Left}
-use Rattle.frp_graph.specs.declared.history.Entry.{Entry}
-use Rattle.frp_graph.specs.Trace.{live, node_in, sight_of}
-use Rattle.frp_graph.specs.Equations.{Sent}
-use Rattle.frp_graph.specs.Births.{file_made}
+use Rattle.frp_graph.specs.declared.trace.Sent.{Sent}
+use Rattle.frp_graph.specs.Trace.{Sight, live, node_in, sight_of}
+use Rattle.frp_graph.specs.Births.{build, file_plans}
 use Rattle.frp_graph.specs.FirstValues.{AreBorn}
-use Rattle.frp_graph.specs.Moments.{build, is_of, moments_of, IsMoment, AtEach}
-use Rattle.frp_graph.specs.WellFormed.{has_typed_first, is_typed_fact, Allows, IsWellFormed}
+use Rattle.frp_graph.specs.Moments.{is_of, moments_of, transaction, IsMoment, IsTrace, AtEach}
+use Rattle.frp_graph.specs.WellFormed.{has_typed_first, is_typed_fact, Allows}
 use Rattle.frp_graph.specs.Sound.{IsSound, KeepsLimits}
 use Rattle.frp_graph.specs.TypedProg.{IsTypedProg}
-use Rattle.frp_graph.specs.History.{send_of, sends_of, entry_at}
-use Rattle.frp_graph.specs.Windows.{window}
-use Rattle.frp_graph.specs.Listeners.{Listener, key_eq, joined_by, is_leave, listener, IsFreeSlot, given_by, given_count, rest_of, rest}
-use Rattle.frp_graph.specs.Legal.{live_before, no_sink, no_node, no_listener, RefusedOr, IsReply}
-use Rattle.frp_graph.proofs.Each.{append-nil, each_more}
-use Rattle.frp_graph.proofs.Lists.{chosen}
-use Rattle.frp_graph.proofs.FileBirths.{file_births, no_births}
 use Rattle.frp_graph.specs.Limits.{program_limits}
+use Rattle.frp_graph.proofs.Each.{each_more}
+use Rattle.frp_graph.proofs.Lists.{chosen}
+use Rattle.frp_graph.proofs.Before.{filter_none, live_append}
+use Rattle.frp_graph.proofs.Sending.{NotAt, sent_elsewhere, sent_alone, moments_moved}
+use Rattle.frp_graph.proofs.FileBirths.{file_births, no_births}
+use Rattle.frp_history.specs.declared.history.Key.{Key}
+use Rattle.frp_history.specs.declared.history.Delivered.{Delivered}
+use Rattle.frp_history.specs.declared.history.Cmd.{Cmd}
+use Rattle.frp_history.specs.declared.history.Cmd.TheVariants.{Send, Join, Take, Leave}
+use Rattle.frp_history.specs.declared.history.No.{No}
+use Rattle.frp_history.specs.declared.history.Reply.{Reply}
+use Rattle.frp_history.specs.declared.history.Reply.TheVariants.{Accepted, Refused, Joined, Given, Left}
+use Rattle.frp_history.specs.declared.history.No.TheVariants.{UnknownNode}
+use Rattle.frp_history.specs.declared.history.Entry.{Entry}
+use Rattle.frp_history.specs.History.{is_accepted, accepted_sends, sends_of, entry_at}
+use Rattle.frp_history.specs.Windows.{window}
+use Rattle.frp_history.specs.Listeners.{Listener, key_eq, joined_by, is_leave, listener, IsFreeSlot, taken_by, taken_count, rest_of, rest}
+use Rattle.frp_history.specs.Sessions.{Call}
+use Rattle.frp_history.specs.Legal.{no_sink, no_sends, no_node, no_listener, RefusedOr, IsNewKey, IsReply, IsLegal}
+use Rattle.frp_history.proofs.Sendings.{sends_of_more, sends_before}
+use Rattle.frp_history.proofs.Legals.{legal_after}
 use Rattle.frp_core.specs.Small.{is_built, AreSmallFrom}
 use Rattle.frp_core.specs.Nodes.{line_nodes}
 use Rattle.frp_core.specs.Engine.{AreFacts}
-use Rattle.frp_core.specs.Core.{program, times_of, IsPlain, IsCore, HasRoom, Entered, HasAnswered}
-use Rattle.frp_core.specs.declared.machine.Core.{Core}
-use Rattle.frp_core.proofs.Times.{IsBefore, at_place, sends_more, times_before, all_before, other_times, filter_append, filter_none, all_both, all_mapped, all_follow}
+use Rattle.frp_core.specs.Core.{State, times_of, IsSingle, IsPlain, IsPlainEntry, IsCore, IsQuiet, HasRoom, HasAnswered, join_reply, entry_of, with_entry, with_moment}
+use Rattle.frp_core.proofs.Times.{IsBefore, at_place, none_sent, times_before, other_times, all_both, all_mapped, all_follow}
 use Rattle.frp_core.proofs.Settling.{settled_length}
 use Rattle.frp_core.proofs.Lines.{born, few_nodes}
 use Rattle.frp_core.proofs.NewMoment.{nodes_rise, new_moment}
 use Rattle.frp_core.proofs.Chainless.{chainless, no_execute}
 use Rattle.frp_core.proofs.TypedFacts.{sent_fits, typed_facts}
-use Rattle.frp_core.proofs.WellTyped.{well_formed}
-use Rattle.frp_core.proofs.Traces.{is_trace, moment_sends, sent_more, sent_last, each_with, live_append}
-use Rattle.frp_core.proofs.Replies.{IsJoin, held_join, entry_bound, before_stays, replies_stay, replies_more}
-
-map_append : {A B : Type 0} (f : A → B) (xs ys : List A) → map f (xs ++ ys) ≡ map f xs ++ map f ys
-map_append f [] ys = refl
-map_append f (x ∷ xs) ys = ap (λ zs. f x ∷ zs) (map_append f xs ys)
+use Rattle.frp_core.proofs.WellTyped.{nodes_right}
+use Rattle.frp_core.proofs.Traces.{is_trace}
+use Rattle.frp_core.proofs.Held.{IsJoin, held_join, entry_bound}
 
 begun_more : (P : Moment → Type 0) (ms : List Moment) (m : Moment) → IsSomeAnd (slice_get ms 0) P → IsSomeAnd (slice_get (ms ++ m ∷ []) 0) P
 begun_more P [] m h = absurd h
@@ -60,13 +63,13 @@ begun_more P (k ∷ ms) m h = h
 
 -- Plain replies.
 
-plain_at : (es : List Entry) (i : ℕ) (e : Entry) → AllByRecursion (λ e. IsPlain e.reply) es → slice_get es i ≡ Some e → IsPlain e.reply
+plain_at : (es : List Entry) (i : ℕ) (e : Entry) → AllByRecursion IsPlainEntry es → slice_get es i ≡ Some e → IsPlain e.reply
 plain_at [] zero e h q = absurd (cc)
 plain_at [] (suc i) e h q = absurd (cc)
-plain_at (d ∷ es) zero e h q = let p : d ≡ e = cc in subst (λ (x : Entry). IsPlain x.reply) p h.0
+plain_at (d ∷ es) zero e h q = let p : d ≡ e = cc in subst (λ (x : Entry). IsPlain x.reply) p h.0.1
 plain_at (d ∷ es) (suc i) e h q = plain_at es i e h.1 q
 
-plain_of : (es : List Entry) (p : ℕ) (e : Entry) → AllByRecursion (λ e. IsPlain e.reply) es → entry_at es p ≡ Some e → IsPlain e.reply
+plain_of : (es : List Entry) (p : ℕ) (e : Entry) → AllByRecursion IsPlainEntry es → entry_at es p ≡ Some e → IsPlain e.reply
 plain_of es zero e h q = absurd (cc)
 plain_of es (suc p) e h q = plain_at es p e h q
 
@@ -85,7 +88,7 @@ slot_of key caller (Join node) (Joined given) l j h = elim (chosen (key_eq given
 slot_of key caller _ _ l j h = absurd cc
 
 -- the slot of the next place is free
-free_slot : (es : List Entry) → AllByRecursion (λ e. IsPlain e.reply) es → IsFreeSlot es (length es + 1)
+pub free_slot : (es : List Entry) → AllByRecursion IsPlainEntry es → IsFreeSlot es (length es + 1)
 free_slot es plain = λ key some same. by key (listener es key) refl some same where
   by : (key : Key) (o : Option Listener) → listener es key ≡ o → is_some o ≡ true → key.slot ≡ length es + 1 → ⊥
   by key None q some same = absurd cc
@@ -96,25 +99,30 @@ free_slot es plain = λ key some same. by key (listener es key) refl some same w
       omega arith
 
 -- nothing was taken
-given_zero : (key : Key) (c : Cmd) (r : Reply) → IsPlain r → given_by key c r ≡ 0
+given_zero : (key : Key) (c : Cmd) (r : Reply) → IsPlain r → taken_by key c r ≡ 0
 given_zero key (Take k max) (Given items) h = absurd h
 given_zero key _ _ h = refl
 
-none_given : (es : List Entry) (key : Key) → AllByRecursion (λ e. IsPlain e.reply) es → given_count es key ≡ 0
+none_given : (es : List Entry) (key : Key) → AllByRecursion IsPlainEntry es → taken_count es key ≡ 0
 none_given [] key h = refl
-none_given (e ∷ es) key h = λ i. given_zero key e.cmd e.reply h.0 i + none_given es key h.1 i
+none_given (e ∷ es) key h = λ i. given_zero key e.cmd e.reply h.0.1 i + none_given es key h.1 i
 
 -- so all of a window is left for a listener
-whole_window : (trace : List Moment) (es : List Entry) (key : Key) (d : ℕ) (l : Listener) → AllByRecursion (λ e. IsPlain e.reply) es → listener es key ≡ Some l
-    → window trace l.node key.place d ≡ rest trace es key d
-whole_window trace es key d l plain h =
-    ap (λ (n : ℕ). drop n (window trace l.node key.place d)) (sym (none_given es key plain)) ∙ ap (rest_of trace es key d) (sym h)
+whole_window : (trace : List Moment) (es : List Entry) (key : Key) (l : Listener) → AllByRecursion IsPlainEntry es → listener es key ≡ Some l
+    → window trace l.node key.place ≡ rest trace es key
+whole_window trace es key l plain h =
+    ap (λ (n : ℕ). drop n (window trace l.node key.place)) (sym (none_given es key plain)) ∙ ap (rest_of trace es key) (sym h)
 
 -- Replies that are not refusals.
 
-accepted_join : (o : Option Node) (P : Reply → Type 0) (r : Reply) → IsSome o → P r → RefusedOr (no_node o) P r
-accepted_join None P r h p = absurd cc
-accepted_join (Some x) P r h p = p
+-- the reply to a join of a live node, and of another
+pub joins : (c : State) → IsCore c → (o : Option Node) (x : Node) (place : ℕ) → o ≡ Some x → place ≡ length c.entries + 1
+    → RefusedOr (no_node o) (IsNewKey c.entries (length c.entries + 1)) (Joined (record { slot = place; place = place }))
+joins c core o x place e q =
+    rw (e, q) (refl, free_slot c.entries core.plain)
+
+pub joins_none : (o : Option Node) (P : Reply → Type 0) → o ≡ None → RefusedOr (no_node o) P (Refused UnknownNode)
+joins_none o P e = rw e refl
 
 own_listener : (caller : ℕ) (node : Name) → no_listener caller (Some (record { caller = caller; node = node })) ≡ None
 own_listener caller node = let e : (caller == caller) ≡ true = grind (arith, nat_tests) in rw e refl
@@ -123,94 +131,64 @@ not_refused : (o : Option No) (P : Reply → Type 0) (r : Reply) → o ≡ None 
 not_refused None P r e p = p
 not_refused (Some why) P r e p = absurd cc
 
-refused : (o : Option No) (P : Reply → Type 0) (why : No) → o ≡ Some why → RefusedOr o P (Refused why)
+-- one send is refused for its sink or its value alone
+one_refused : (prog : Prog) (node : Name → Option Node) (f : Fact) (why : No) → no_sink prog node f.value (node f.node) ≡ Some why → no_sends prog node (f ∷ []) ≡ Some why
+one_refused prog node f why h = rw h refl
+
+one_taken : (prog : Prog) (node : Name → Option Node) (f : Fact) → no_sink prog node f.value (node f.node) ≡ None → no_sends prog node (f ∷ []) ≡ None
+one_taken prog node f h = rw h refl
+
+pub refused : (o : Option No) (P : Reply → Type 0) (why : No) → o ≡ Some why → RefusedOr o P (Refused why)
 refused None P why e = absurd cc
 refused (Some found) P why e = let same : found ≡ why = cc in ap (λ n. Refused n) (sym same)
 
-module _ (c : Core) (core : IsCore c) (room : HasRoom c) where
+-- no group is among plain entries
+no_groups : (es : List Entry) → AllByRecursion IsPlainEntry es → AllByRecursion (λ e. IsSingle e.cmd) es
+no_groups = all_follow IsPlainEntry (λ e. IsSingle e.cmd) (λ e h. h.0)
+
+module _ (c : State) (core : IsCore c) (room : HasRoom c) where
   abbrev pub here : ℕ
   here = length c.entries + 1
 
+  single : AllByRecursion (λ e. IsSingle e.cmd) c.entries
+  single = no_groups c.entries core.plain
+
   times_here : AllByRecursion (IsBefore here) (map (λ m. m.time) c.trace)
-  times_here = subst (AllByRecursion (IsBefore here)) (sym core.times) (times_before c.entries here (omega arith))
+  times_here = subst (AllByRecursion (IsBefore here)) (sym core.times) (times_before c.entries here single (omega arith))
 
   moments_here : AllByRecursion (λ m. IsBefore here m.time) c.trace
   moments_here = all_mapped (λ m. m.time) (IsBefore here) c.trace times_here
 
-  sends_here : AllByRecursion (λ r. time_eq (here ∷ []) (r.place ∷ []) ≡ false) (sends_of c.entries)
-  sends_here = all_follow (λ r. IsBefore here (at_place r)) _ (λ r b. ap (time_eq (here ∷ [])) b.1.0 ∙ differs here b.0 b.1.1) (sends_of c.entries)
-      (all_mapped at_place (IsBefore here) (sends_of c.entries) (times_before c.entries here (omega arith)).1) where
-        differs : (n a : ℕ) → a < n → time_eq (n ∷ []) (a ∷ []) ≡ false
-        differs n a h = let e : (n == a) ≡ false = grind (arith, nat_tests) in rw e refl
-
-  live_here : live_before c.trace here ≡ live c.trace
-  live_here = ap live (all_before here c.trace moments_here)
-
-  few_more : (e : Entry) → length (c.entries ++ e ∷ []) ≤ program_limits.entries
-  few_more e = omega (arith, length-append c.entries (e ∷ []))
+  not_sent : NotAt (here ∷ []) (sends_of c.entries)
+  not_sent = all_follow (λ r. r.place < here) _ (λ r l. let p : r.place < here = l in let e : (here == r.place) ≡ false = grind (arith, nat_tests) in rw e refl) (sends_of c.entries) (sends_before c.entries)
 
   -- An entry that sends nothing.
-  module _ (e : Entry) (none : send_of here e.cmd e.reply ≡ []) (plain : IsPlain e.reply)
-      (reply : IsReply c.prog program_limits c.trace c.entries here e.caller e.cmd e.reply) where
+  module _ (e : Entry) (q : IsQuiet c e) where
     same_sends : sends_of (c.entries ++ e ∷ []) ≡ sends_of c.entries
-    same_sends = sends_more 1 here c.entries e (omega arith) ∙ ap (λ xs. sends_of c.entries ++ xs) none ∙ append-nil (sends_of c.entries)
+    same_sends = sends_of_more c.entries e ∙ ap (λ xs. sends_of c.entries ++ xs) q.unsent ∙ append-nil (sends_of c.entries)
 
-    abbrev quiet : Core
-    quiet = record { prog = c.prog; entries = c.entries ++ e ∷ []; trace = c.trace }
+    more_plain : AllByRecursion IsPlainEntry (c.entries ++ e ∷ [])
+    more_plain = all_both IsPlainEntry c.entries (e ∷ []) core.plain (q.plain, tt)
 
-    quiet_core : IsCore quiet
-    quiet_core = record {
-      typed = core.typed;
-      built = core.built;
-      nodes = core.nodes;
-      small = core.small;
-      begun = core.begun;
-      times = core.times ∙ ap (λ ss. build ∷ map at_place ss) (sym same_sends);
-      legal = record {
-        is_trace = is_trace c.trace core.small (program c) (c.entries ++ e ∷ []) (core.times ∙ ap (λ ss. build ∷ map at_place ss) (sym same_sends))
-            (subst (λ ss. AtEach (IsMoment (program c) ss) [] c.trace) (sym same_sends) core.legal.is_trace.moments);
-        sound = core.legal.sound;
-        within = core.legal.within;
-        few_entries = few_more e;
-        replies = replies_more c.prog program_limits c.trace [] c.entries e core.legal.replies reply;
-      };
-      plain = all_both (λ e. IsPlain e.reply) c.entries (e ∷ []) core.plain (plain, tt);
-    }
+    same_times : map (λ m. m.time) c.trace ≡ times_of (c.entries ++ e ∷ [])
+    same_times = core.times ∙ ap (λ ss. build ∷ map at_place ss) (sym same_sends)
 
-    pub quiet_entered : (entries : List Entry) → entries ≡ c.entries ++ e ∷ [] → Entered c (record { prog = c.prog; entries = entries; trace = c.trace }) e
-    quiet_entered entries q = subst (λ es. Entered c (record { prog = c.prog; entries = es; trace = c.trace }) e) (sym q)
-        (record { core = quiet_core; program_stays = refl; entries = refl })
+    quiet_legal : IsLegal c.prog program_limits (c.entries ++ e ∷ []) c.trace
+    quiet_legal = subst (IsLegal c.prog program_limits (c.entries ++ e ∷ [])) (append-nil c.trace)
+        (legal_after c.prog program_limits c.entries e c.trace [] core.legal tt
+        (subst (IsTrace c.prog (sends_of (c.entries ++ e ∷ []))) (sym (append-nil c.trace))
+        (is_trace c.trace core.small c.prog (c.entries ++ e ∷ []) (no_groups (c.entries ++ e ∷ []) more_plain) same_times
+        (subst (λ ss. AtEach (IsMoment c.prog ss) [] c.trace) (sym same_sends) core.legal.is_trace.moments)))
+        (subst (AtEach (IsSound c.prog) []) (sym (append-nil c.trace)) core.legal.sound)
+        (subst (KeepsLimits program_limits) (sym (append-nil c.trace)) core.legal.within)
+        (omega arith) q.reply)
 
-  pub join_entered : (caller : ℕ) (node : Name) (entries : List Entry) → IsSome (node_in (live c.trace) node)
-      → entries ≡ c.entries ++ record { caller = caller; cmd = Join node; reply = Joined (record { slot = here; place = here }) } ∷ []
-      → Entered c (record { prog = c.prog; entries = entries; trace = c.trace }) (record { caller = caller; cmd = Join node; reply = Joined (record { slot = here; place = here }) })
-  join_entered caller node entries l q = quiet_entered (record { caller = caller; cmd = Join node; reply = Joined (record { slot = here; place = here }) }) refl refl
-      (accepted_join (node_in (live_before c.trace here) node) _ (Joined (record { slot = here; place = here })) (subst (λ (nodes : List Node). IsSome (node_in nodes node)) (sym live_here) l) (refl, free_slot c.entries core.plain))
-      entries q
-
-  pub leave_entered : (caller : ℕ) (key : Key) (node : Name) (items : List Delivered) (entries : List Entry) → listener c.entries key ≡ Some (record { caller = caller; node = node })
-      → items ≡ window c.trace node key.place here → entries ≡ c.entries ++ record { caller = caller; cmd = Leave key; reply = Left items } ∷ []
-      → HasAnswered c (record { prog = c.prog; entries = entries; trace = c.trace }) (record { caller = caller; cmd = Leave key })
-  leave_entered caller key node items entries h w q = record {
-    reply = Left items;
-    entered = quiet_entered (record { caller = caller; cmd = Leave key; reply = Left items }) refl tt
-        (not_refused (no_listener caller (listener c.entries key)) _ (Left items) (ap (no_listener caller) h ∙ own_listener caller node)
-        (ap (λ (ds : List Delivered). Left ds) (w ∙ whole_window c.trace c.entries key here (record { caller = caller; node = node }) core.plain h)))
-        entries q;
-  }
-
-  -- A send that is refused.
-  pub refused_entered : (caller : ℕ) (f : Fact) (why : No) (entries : List Entry) → no_sink c.prog (live c.trace) f.value (node_in (live c.trace) f.node) ≡ Some why
-      → entries ≡ c.entries ++ record { caller = caller; cmd = Send f.node f.value; reply = Refused why } ∷ []
-      → Entered c (record { prog = c.prog; entries = entries; trace = c.trace }) (record { caller = caller; cmd = Send f.node f.value; reply = Refused why })
-  refused_entered caller f why entries h q = quiet_entered (record { caller = caller; cmd = Send f.node f.value; reply = Refused why }) refl tt
-      (refused (no_sink c.prog (live_before c.trace here) f.value (node_in (live_before c.trace here) f.node)) _ why
-      (ap (λ (nodes : List Node). no_sink c.prog nodes f.value (node_in nodes f.node)) live_here ∙ h))
-      entries q
+    pub quiet_core : IsCore (with_entry c e)
+    quiet_core = record { typed = core.typed; built = core.built; nodes = core.nodes; small = core.small; begun = core.begun; times = same_times; legal = quiet_legal; plain = more_plain }
 
   -- A send.
   module _ (caller : ℕ) (f : Fact) (fired : List Fact) (facts : AreFacts c.prog (live c.trace) here (Some f) fired)
-      (sink : no_sink c.prog (live c.trace) f.value (node_in (live c.trace) f.node) ≡ None) where
+      (sink : no_sink c.prog (node_in (live c.trace)) f.value (node_in (live c.trace) f.node) ≡ None) where
     abbrev m : Moment
     m = record { time = here ∷ []; born = []; fired = fired }
 
@@ -218,10 +196,13 @@ module _ (c : Core) (core : IsCore c) (room : HasRoom c) where
     e = record { caller = caller; cmd = Send f.node f.value; reply = Accepted 1 }
 
     abbrev s : Sent
-    s = record { place = here; sink = f.node; value = f.value }
+    s = record { place = here; part = 0; sink = f.node; value = f.value }
+
+    abbrev seen : Sight
+    seen = sight_of c.trace m
 
     more_sends : sends_of (c.entries ++ e ∷ []) ≡ sends_of c.entries ++ s ∷ []
-    more_sends = sends_more 1 here c.entries e (omega arith)
+    more_sends = sends_of_more c.entries e
 
     live_stays : live (c.trace ++ m ∷ []) ≡ live c.trace
     live_stays = live_append c.trace (m ∷ []) ∙ append-nil (live c.trace)
@@ -229,60 +210,58 @@ module _ (c : Core) (core : IsCore c) (room : HasRoom c) where
     small_after : AreSmallFrom 0 (live (c.trace ++ m ∷ []))
     small_after = subst (AreSmallFrom 0) (sym live_stays) core.small
 
+    -- what is seen at the moment finds the live nodes
+    finds : (n : Name) → seen.node n ≡ node_in (live c.trace) n
+    finds n = ap (λ (xs : List Node). node_in xs n) live_stays
+
     more_times : map (λ m. m.time) (c.trace ++ m ∷ []) ≡ times_of (c.entries ++ e ∷ [])
-    more_times = map_append (λ m. m.time) c.trace (m ∷ []) ∙ ap (λ ts. ts ++ (here ∷ []) ∷ []) core.times
-        ∙ ap (λ ts. build ∷ ts) (sym (map_append at_place (sends_of c.entries) (s ∷ []))) ∙ ap (λ ss. build ∷ map at_place ss) (sym more_sends)
+    more_times = map-append (λ m. m.time) c.trace (m ∷ []) ∙ ap (λ ts. ts ++ (here ∷ []) ∷ []) core.times
+        ∙ ap (λ ts. build ∷ ts) (sym (map-append at_place (sends_of c.entries) (s ∷ []))) ∙ ap (λ ss. build ∷ map at_place ss) (sym more_sends)
 
     not_build : time_eq (here ∷ []) build ≡ false
     not_build = let z : (here == 0) ≡ false = grind (arith, nat_tests) in rw z refl
 
-    old_moments : AtEach (IsMoment (program c) (sends_of c.entries ++ s ∷ [])) [] c.trace
-    old_moments = each_with (IsMoment (program c) (sends_of c.entries)) (IsMoment (program c) (sends_of c.entries ++ s ∷ [])) (λ k. time_eq k.time (here ∷ []) ≡ false)
-        (λ past k i d. moment_sends (program c) (sends_of c.entries) (sends_of c.entries ++ s ∷ []) past k (λ n. sent_more (sends_of c.entries) s k.time n d) i)
-        [] c.trace core.legal.is_trace.moments (other_times here c.trace moments_here)
+    old_moments : AtEach (IsMoment c.prog (sends_of c.entries ++ s ∷ [])) [] c.trace
+    old_moments = moments_moved c.prog (sends_of c.entries) (sends_of c.entries ++ s ∷ []) (λ k. time_eq k.time (here ∷ []) ≡ false)
+        (λ k d n. sym (sent_elsewhere c.prog (sends_of c.entries) (s ∷ []) k.time n (d, tt))) [] c.trace (other_times here c.trace moments_here) core.legal.is_trace.moments
 
-    last_moment : IsMoment (program c) (sends_of c.entries ++ s ∷ []) c.trace m
+    last_moment : IsMoment c.prog (sends_of c.entries ++ s ∷ []) c.trace m
     last_moment = new_moment c.prog (live c.trace) (sends_of c.entries ++ s ∷ []) here (Some f) c.trace m facts.occs refl facts.fired core.small
         (settled_length c.prog here (Some f) facts.occs (live c.trace) facts.occs facts.settled)
-        (λ n. sent_last (sends_of c.entries) s (here ∷ []) n sends_here)
-        facts.settled (no_births c.prog (live (c.trace ++ m ∷ [])) (sight_of c.trace m) not_build (no_execute 0 (live (c.trace ++ m ∷ [])) small_after)) (nodes_rise 0 [] tt) live_stays
+        (λ n. sent_alone c.prog (sends_of c.entries) (s ∷ []) (here ∷ []) n not_sent)
+        facts.settled (no_births c.prog seen (no_execute seen (live c.trace) finds core.small) not_build) (nodes_rise 0 [] tt) live_stays
 
-    fired_typed : list_all (is_typed_fact c.prog (live c.trace)) fired ≡ true
+    fired_typed : list_all (is_typed_fact c.prog seen) fired ≡ true
     fired_typed =
-        let w : IsWellFormed c.prog (line_nodes [] c.prog.body.lines) [] = well_formed c.prog core.typed core.built in
-        let allowed : AllByRecursion (λ x. Allows c.prog w.program.patterns (live c.trace) x.ty x.shape) (live c.trace) =
-        subst (λ (nodes : List Node). AllByRecursion (λ x. Allows c.prog w.program.patterns nodes x.ty x.shape) nodes) (sym core.nodes) w.shapes in
-        subst (λ (fs : List Fact). list_all (is_typed_fact c.prog (live c.trace)) fs ≡ true) (sym facts.fired)
-        (typed_facts c.prog w.program.patterns (live c.trace) here (Some f) facts.occs (sent_fits c.prog (live c.trace) here f sink) core.small allowed facts.settled)
+        let right = nodes_right c.prog core.typed core.built seen (λ n. finds n ∙ ap (λ (xs : List Node). node_in xs n) core.nodes) in
+        let allowed : AllByRecursion (λ x. Allows c.prog seen x.ty x.shape) (live c.trace) = subst (AllByRecursion (λ x. Allows c.prog seen x.ty x.shape)) (sym core.nodes) right.0 in
+        let takes : no_sink c.prog seen.node f.value (seen.node f.node) ≡ None = ap (λ (xs : List Node). no_sink c.prog (node_in xs) f.value (node_in xs f.node)) live_stays ∙ sink in
+        subst (λ (fs : List Fact). list_all (is_typed_fact c.prog seen) fs ≡ true) (sym facts.fired)
+        (typed_facts c.prog seen (live c.trace) here (Some f) facts.occs finds (sent_fits c.prog seen here f takes) core.small allowed facts.settled)
 
     last_sound : IsSound c.prog c.trace m
-    last_sound = record {
-      values = subst (λ (nodes : List Node). list_all (is_typed_fact c.prog nodes) fired ≡ true) (sym live_stays) fired_typed;
-      chainless = chainless (live (c.trace ++ m ∷ [])) (sight_of c.trace m) small_after;
-    }
+    last_sound = record { firsts = refl; facts = fired_typed; chainless = chainless seen (live c.trace) finds core.small }
 
-    none_here : filter (λ k. is_of here k.time) c.trace ≡ []
+    one_here : moments_of here (m ∷ []) ≡ 1
+    one_here = let h : (here == here) ≡ true = grind (arith, nat_tests) in rw h refl
+
+    none_here : transaction here c.trace ≡ []
     none_here = filter_none (λ k. is_of here k.time) c.trace (all_follow _ _ (λ k b. ap (is_of here) b.1.0 ∙ below b.0 here b.1.1) c.trace moments_here) where
       below : (a b : ℕ) → a < b → (a == b) ≡ false
       below a b h = grind (arith, nat_tests)
 
-    one_here : filter (λ k. is_of here k.time) (m ∷ []) ≡ m ∷ []
-    one_here = let h : (here == here) ≡ true = grind (arith, nat_tests) in rw h refl
-
-    moments_new : 1 ≡ moments_of here (c.trace ++ m ∷ [])
-    moments_new = sym (ap length (filter_append (λ k. is_of here k.time) c.trace (m ∷ []) ∙ ap (λ xs. xs ++ filter (λ k. is_of here k.time) (m ∷ [])) none_here ∙ one_here))
-
-    moments_elsewhere : (k : ℕ) → (here == k) ≡ false → moments_of k (c.trace ++ m ∷ []) ≡ moments_of k c.trace
-    moments_elsewhere k e = ap length (filter_append (λ j. is_of k j.time) c.trace (m ∷ []) ∙ ap (λ xs. filter (λ j. is_of k j.time) c.trace ++ xs) (rw e refl) ∙ append-nil _)
+    moments_joined : (k : ℕ) → moments_of k (c.trace ++ m ∷ []) ≡ length (transaction k c.trace ++ transaction k (m ∷ []))
+    moments_joined k = ap length (filter-append (λ j. is_of k j.time) c.trace (m ∷ []))
 
     few_moments : (k : ℕ) → moments_of k (c.trace ++ m ∷ []) ≤ program_limits.moments
     few_moments k = elim (cases_Bool (here == k)) [
       | inl e ↦
           let same : here ≡ k = grind (arith, nat_tests) in
-          let one : 1 ≡ moments_of k (c.trace ++ m ∷ []) = subst (λ (k : ℕ). 1 ≡ moments_of k (c.trace ++ m ∷ [])) same moments_new in
-          omega arith
+          let one : moments_of here (c.trace ++ m ∷ []) ≡ 1 = moments_joined here ∙ ap (λ ms. length (ms ++ transaction here (m ∷ []))) none_here ∙ one_here in
+          subst (λ (k : ℕ). moments_of k (c.trace ++ m ∷ []) ≤ program_limits.moments) same (omega arith)
       | inr e ↦
-          let old : moments_of k (c.trace ++ m ∷ []) ≡ moments_of k c.trace = moments_elsewhere k e in
+          let none : transaction k (m ∷ []) ≡ [] = rw e refl in
+          let old : moments_of k (c.trace ++ m ∷ []) ≡ moments_of k c.trace = moments_joined k ∙ ap (λ ms. length (transaction k c.trace ++ ms)) none ∙ ap length (append-nil (transaction k c.trace)) in
           let few : moments_of k c.trace ≤ program_limits.moments = core.legal.within.moments k in
           omega arith
     ]
@@ -290,17 +269,24 @@ module _ (c : Core) (core : IsCore c) (room : HasRoom c) where
     keeps_limits : KeepsLimits program_limits (c.trace ++ m ∷ [])
     keeps_limits = record { moments = few_moments; nodes = subst (λ (nodes : List Node). length nodes ≤ program_limits.nodes) (sym live_stays) core.legal.within.nodes }
 
-    sink_before : no_sink c.prog (live_before (c.trace ++ m ∷ []) here) f.value (node_in (live_before (c.trace ++ m ∷ []) here) f.node) ≡ None
-    sink_before = ap (λ ms. no_sink c.prog (live ms) f.value (node_in (live ms) f.node)) (before_stays c.trace m here refl here (omega arith) ∙ all_before here c.trace moments_here) ∙ sink
+    all_plain : AllByRecursion IsPlainEntry (c.entries ++ e ∷ [])
+    all_plain = all_both IsPlainEntry c.entries (e ∷ []) core.plain ((tt, tt), tt)
 
-    abbrev after : Core
-    after = record { prog = c.prog; entries = c.entries ++ e ∷ []; trace = c.trace ++ m ∷ [] }
+    each_moment : AtEach (IsMoment c.prog (sends_of (c.entries ++ e ∷ []))) [] (c.trace ++ m ∷ [])
+    each_moment = subst (λ ss. AtEach (IsMoment c.prog ss) [] (c.trace ++ m ∷ [])) (sym more_sends)
+        (each_more (IsMoment c.prog (sends_of c.entries ++ s ∷ [])) [] c.trace m old_moments last_moment)
 
-    each_moment : AtEach (IsMoment (program after) (sends_of (c.entries ++ e ∷ []))) [] (c.trace ++ m ∷ [])
-    each_moment = subst (λ ss. AtEach (IsMoment (program c) ss) [] (c.trace ++ m ∷ [])) (sym more_sends)
-        (each_more (IsMoment (program c) (sends_of c.entries ++ s ∷ [])) [] c.trace m old_moments last_moment)
+    of_here : AllByRecursion (λ j. is_of here j.time ≡ true) (m ∷ [])
+    of_here = ((let h : (here == here) ≡ true = grind (arith, nat_tests) in h), tt)
 
-    send_core : IsCore after
+    send_legal : IsLegal c.prog program_limits (c.entries ++ e ∷ []) (c.trace ++ m ∷ [])
+    send_legal = legal_after c.prog program_limits c.entries e c.trace (m ∷ []) core.legal of_here
+        (is_trace (c.trace ++ m ∷ []) small_after c.prog (c.entries ++ e ∷ []) (no_groups (c.entries ++ e ∷ []) all_plain) more_times each_moment)
+        (each_more (IsSound c.prog) [] c.trace m core.legal.sound last_sound)
+        keeps_limits (omega arith)
+        (not_refused (no_sends c.prog (node_in (live c.trace)) (f ∷ [])) _ (Accepted 1) (one_taken c.prog (node_in (live c.trace)) f sink) refl)
+
+    send_core : IsCore (with_moment c e m)
     send_core = record {
       typed = core.typed;
       built = core.built;
@@ -308,22 +294,81 @@ module _ (c : Core) (core : IsCore c) (room : HasRoom c) where
       small = small_after;
       begun = subst (λ ns. IsSomeAnd (slice_get (c.trace ++ m ∷ []) 0) (λ k. k.born ≡ ns)) (sym live_stays) (begun_more (λ k. k.born ≡ live c.trace) c.trace m core.begun);
       times = more_times;
-      legal = record {
-        is_trace = is_trace (c.trace ++ m ∷ []) small_after (program after) (c.entries ++ e ∷ []) more_times each_moment;
-        sound = each_more (IsSound c.prog) [] c.trace m core.legal.sound last_sound;
-        within = keeps_limits;
-        few_entries = few_more e;
-        replies = replies_more c.prog program_limits (c.trace ++ m ∷ []) [] c.entries e (replies_stay c.trace m here refl c.prog program_limits [] c.entries (omega arith) core.legal.replies)
-            (not_refused _ _ (Accepted 1) sink_before moments_new);
-      };
-      plain = all_both (λ e. IsPlain e.reply) c.entries (e ∷ []) core.plain (tt, tt);
+      legal = send_legal;
+      plain = all_plain;
     }
 
-    pub send_entered : (entries : List Entry) (trace : List Moment) → entries ≡ c.entries ++ e ∷ [] → trace ≡ c.trace ++ m ∷ []
-        → Entered c (record { prog = c.prog; entries = entries; trace = trace }) e
-    send_entered entries trace p q = subst (λ es. Entered c (record { prog = c.prog; entries = es; trace = trace }) e) (sym p)
-        (subst (λ ts. Entered c (record { prog = c.prog; entries = c.entries ++ e ∷ []; trace = ts }) e) (sym q)
-        (record { core = send_core; program_stays = refl; entries = refl }))
+    pub sent_core : (k : Moment) → k ≡ m → IsCore (with_moment c e k)
+    sent_core k q = subst (λ k. IsCore (with_moment c e k)) (sym q) send_core
+
+-- The fields of a core that was changed.
+
+pub entered : (a s : State) → a ≡ s → IsCore a → HasRoom s → (e : Entry) → IsQuiet s e → (entries : List Entry) → entries ≡ a.entries ++ e ∷ []
+    → IsCore (record { prog = a.prog; entries = entries; trace = a.trace })
+entered a s v core room e quiet entries q = subst (λ es. IsCore (record { prog = a.prog; entries = es; trace = a.trace })) (sym q)
+    (quiet_core a core (subst HasRoom (sym v) room) e (subst (λ c. IsQuiet c e) (sym v) quiet))
+
+pub moment_entered : (a s : State) → a ≡ s → (e : Entry) (m : Moment) → IsCore (with_moment s e m) → (entries : List Entry) (trace : List Moment) → entries ≡ a.entries ++ e ∷ [] → trace ≡ a.trace ++ m ∷ []
+    → IsCore (record { prog = a.prog; entries = entries; trace = trace })
+moment_entered a s v e m core entries trace p q = subst (λ es. IsCore (record { prog = a.prog; entries = es; trace = trace })) (sym p)
+    (subst (λ ts. IsCore (record { prog = a.prog; entries = a.entries ++ e ∷ []; trace = ts })) (sym q) (subst (λ c. IsCore (with_moment c e m)) (sym v) core))
+
+-- where the entry found no memory, the moment was popped again
+moment_popped : (o : Option Moment) (before after : List Moment) (m : Moment) → MatchOption o ((before ++ m ∷ [] ≡ []) × (after ≡ [])) (λ last. before ++ m ∷ [] ≡ after ++ last ∷ []) → after ≡ before
+moment_popped None [] after m h = absurd (let e : m ∷ [] ≡ [] = h.0 in cc)
+moment_popped None (x ∷ xs) after m h = absurd (let e : x ∷ (xs ++ m ∷ []) ≡ [] = h.0 in cc)
+moment_popped (Some last) before after m h = sym (fronts before after m last h) where
+  fronts : (xs ys : List Moment) (a b : Moment) → xs ++ a ∷ [] ≡ ys ++ b ∷ [] → xs ≡ ys
+  fronts [] [] a b e = refl
+  fronts [] (y ∷ []) a b e = absurd cc
+  fronts [] (y ∷ z ∷ ys) a b e = absurd cc
+  fronts (x ∷ []) [] a b e = absurd cc
+  fronts (x ∷ z ∷ xs) [] a b e = absurd cc
+  fronts (x ∷ xs) (y ∷ ys) a b e =
+      let first : x ≡ y = cc in
+      let rest : xs ++ a ∷ [] ≡ ys ++ b ∷ [] = cc in
+      λ i. first i ∷ fronts xs ys a b rest i
+
+pub unchanged : {T E : Type 0} (a : State) (m : Moment) (r : Result T E) (ok : Bool) (o : Option Moment) (entries : List Entry) (full trace : List Moment) → IsCore a → full ≡ a.trace ++ m ∷ []
+    → OnErr r (entries ≡ a.entries) → ok ≡ is_ok r → ok ≡ false → MatchOption o ((full ≡ []) × (trace ≡ [])) (λ last. full ≡ trace ++ last ∷ [])
+    → IsCore (record { prog = a.prog; entries = entries; trace = trace })
+unchanged a m (Ok x) ok o entries full trace core grown err e f pop = absurd (let t : true ≡ false = sym e ∙ f in cc)
+unchanged a m (Err x) ok o entries full trace core grown err e f pop =
+    let same : trace ≡ a.trace = moment_popped o a.trace trace m (subst (λ ms. MatchOption o ((ms ≡ []) × (trace ≡ [])) (λ last. ms ≡ trace ++ last ∷ [])) grown pop) in
+    subst (λ es. IsCore (record { prog = a.prog; entries = es; trace = trace })) (sym err) (subst (λ ts. IsCore (record { prog = a.prog; entries = a.entries; trace = ts })) (sym same) core)
+
+-- Entries that send nothing.
+
+pub join_quiet : (c : State) (caller : ℕ) (node : Name) (r : Reply) → RefusedOr (no_node (node_in (live c.trace) node)) (IsNewKey c.entries (length c.entries + 1)) r → IsPlain r
+    → IsQuiet c (record { caller = caller; cmd = Join node; reply = r })
+join_quiet c caller node r h p = record { unsent = none_sent (length c.entries + 1) (Join node) r refl; plain = (tt, p); reply = h }
+
+pub leave_quiet : (c : State) (caller : ℕ) (key : Key) (r : Reply) → RefusedOr (no_listener caller (listener c.entries key)) (λ r. r ≡ Left (rest c.trace c.entries key)) r → IsPlain r
+    → IsQuiet c (record { caller = caller; cmd = Leave key; reply = r })
+leave_quiet c caller key r h p = record { unsent = none_sent (length c.entries + 1) (Leave key) r refl; plain = (tt, p); reply = h }
+
+pub refused_quiet : (c : State) (caller : ℕ) (f : Fact) (why : No) → no_sink c.prog (node_in (live c.trace)) f.value (node_in (live c.trace) f.node) ≡ Some why
+    → IsQuiet c (record { caller = caller; cmd = Send f.node f.value; reply = Refused why })
+refused_quiet c caller f why h = record {
+  unsent = refl;
+  plain = (tt, tt);
+  reply = refused (no_sends c.prog (node_in (live c.trace)) (f ∷ [])) _ why (one_refused c.prog (node_in (live c.trace)) f why h);
+}
+
+-- the reply to a leave
+pub leaves_own : (c : State) → IsCore c → (caller : ℕ) (key : Key) (node : Name) (items : List Delivered) → listener c.entries key ≡ Some (record { caller = caller; node = node })
+    → items ≡ window c.trace node key.place → RefusedOr (no_listener caller (listener c.entries key)) (λ r. r ≡ Left (rest c.trace c.entries key)) (Left items)
+leaves_own c core caller key node items h w =
+    not_refused (no_listener caller (listener c.entries key)) _ (Left items) (ap (no_listener caller) h ∙ own_listener caller node)
+    (ap (λ (ds : List Delivered). Left ds) (w ∙ whole_window c.trace c.entries key (record { caller = caller; node = node }) core.plain h))
+
+-- What a call was answered.
+
+pub answered_quiet : (old new : State) (call : Call) (r : Reply) → new ≡ with_entry old (entry_of call r) → HasAnswered old new call
+answered_quiet old new call r e = record { reply = r; entries = ap (λ (s : State). s.entries) e; moments = []; trace = ap (λ (s : State). s.trace) e ∙ sym (append-nil old.trace); quiet = λ q. refl }
+
+pub answered_sent : (old new : State) (call : Call) (n : ℕ) (m : Moment) → new ≡ with_moment old (entry_of call (Accepted n)) m → HasAnswered old new call
+answered_sent old new call n m e = record { reply = Accepted n; entries = ap (λ (s : State). s.entries) e; moments = m ∷ []; trace = ap (λ (s : State). s.trace) e; quiet = λ q. absurd cc }
 
 -- a fact of the answer at Ok, from another
 pub on_ok : {T E P Q : Type 0} (r : Result T E) → (P → Q) → OnOk r P → OnOk r Q
@@ -336,32 +381,34 @@ module _ (prog : Prog) (nodes : List Node) (fired : List Fact) (typed : IsTypedP
   abbrev first_moment : Moment
   first_moment = record { time = build; born = nodes; fired = fired }
 
-  abbrev first_core : Core
+  abbrev first_core : State
   first_core = record { prog = prog; entries = []; trace = first_moment ∷ [] }
 
   small_first : AreSmallFrom 0 (live (first_moment ∷ []))
   small_first = subst (AreSmallFrom 0) (sym (append-nil nodes)) small
 
+  abbrev first_sight : Sight
+  first_sight = sight_of [] first_moment
+
+  first_finds : (n : Name) → first_sight.node n ≡ node_in nodes n
+  first_finds n = ap (λ (xs : List Node). node_in xs n) (append-nil nodes)
+
   is_first : IsMoment prog [] [] first_moment
   is_first = new_moment prog nodes [] 0 None [] first_moment facts.occs refl facts.fired small
       (settled_length prog 0 None facts.occs nodes facts.occs facts.settled) (λ n. refl) facts.settled
-      (file_births prog (live (first_moment ∷ [])) (sight_of [] first_moment) nodes refl (no_execute 0 (live (first_moment ∷ [])) small_first)
-      (subst (AreBorn prog (live (first_moment ∷ [])) (sight_of [] first_moment) (file_made prog)) (sym same) (born prog (live (first_moment ∷ [])) (sight_of [] first_moment) built)))
+      (file_births prog first_sight (no_execute first_sight nodes first_finds small) nodes refl (subst (AreBorn prog first_sight (file_plans prog)) (sym same) (born prog first_sight built)))
       (nodes_rise 0 nodes small) (append-nil nodes)
 
-  values_typed : (list_all (has_typed_first prog nodes) nodes && list_all (is_typed_fact prog nodes) fired) ≡ true
-  values_typed =
-      let w : IsWellFormed prog (line_nodes [] prog.body.lines) [] = well_formed prog typed built in
-      let allowed : AllByRecursion (λ x. Allows prog w.program.patterns nodes x.ty x.shape) nodes =
-      subst (λ (nodes : List Node). AllByRecursion (λ x. Allows prog w.program.patterns nodes x.ty x.shape) nodes) (sym same) w.shapes in
-      true_both _ _ (subst (λ (nodes : List Node). list_all (has_typed_first prog nodes) nodes ≡ true) (sym same) w.firsts)
-      (subst (λ (fs : List Fact). list_all (is_typed_fact prog nodes) fs ≡ true) (sym facts.fired)
-      (typed_facts prog w.program.patterns nodes 0 None facts.occs (λ n y v q r. absurd cc) small allowed facts.settled))
+  first_right : (AllByRecursion (λ x. Allows prog first_sight x.ty x.shape) nodes) × (list_all (has_typed_first prog first_sight) nodes ≡ true)
+  first_right = subst (λ (xs : List Node). (AllByRecursion (λ x. Allows prog first_sight x.ty x.shape) xs) × (list_all (has_typed_first prog first_sight) xs ≡ true)) (sym same)
+      (nodes_right prog typed built first_sight (λ n. first_finds n ∙ ap (λ (xs : List Node). node_in xs n) same))
 
   first_sound : IsSound prog [] first_moment
   first_sound = record {
-    values = subst (λ (all : List Node). (list_all (has_typed_first prog all) nodes && list_all (is_typed_fact prog all) fired) ≡ true) (sym (append-nil nodes)) values_typed;
-    chainless = chainless (live (first_moment ∷ [])) (sight_of [] first_moment) small_first;
+    firsts = first_right.1;
+    facts = subst (λ (fs : List Fact). list_all (is_typed_fact prog first_sight) fs ≡ true) (sym facts.fired)
+        (typed_facts prog first_sight nodes 0 None facts.occs first_finds (λ n y v q r. absurd cc) small first_right.0 facts.settled);
+    chainless = chainless first_sight nodes first_finds small;
   }
 
   one_moment : (b : Bool) → length (cond b (first_moment ∷ []) []) ≤ program_limits.moments
@@ -381,7 +428,7 @@ module _ (prog : Prog) (nodes : List Node) (fired : List Fact) (typed : IsTypedP
     begun = sym (append-nil nodes);
     times = refl;
     legal = record {
-      is_trace = is_trace (first_moment ∷ []) small_first prog [] refl (is_first, tt);
+      is_trace = is_trace (first_moment ∷ []) small_first prog [] tt refl (is_first, tt);
       sound = (first_sound, tt);
       within = record { moments = λ k. one_moment (is_of k build); nodes = few_first };
       few_entries = omega arith;

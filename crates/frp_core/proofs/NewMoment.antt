@@ -14,12 +14,14 @@ use Rattle.frp_graph.specs.declared.prog.Prog.{Prog}
 use Rattle.frp_graph.specs.declared.shape.Shape.{Shape}
 use Rattle.frp_graph.specs.declared.shape.Shape.TheVariants.{Sink, Never, Map, Filter, Hold}
 use Rattle.frp_graph.specs.Trace.{or_else, fact_in, node_in, live, occ, sight_of}
-use Rattle.frp_graph.specs.Equations.{Sent, sent_in, row, MeetsEquation}
+use Rattle.frp_graph.specs.declared.trace.Sent.{Sent}
+use Rattle.frp_graph.specs.Sends.{sent_in}
+use Rattle.frp_graph.specs.Equations.{row, MeetsEquation}
 use Rattle.frp_graph.specs.FirstValues.{AreExactly}
-use Rattle.frp_graph.specs.Moments.{made_at, IsMoment}
+use Rattle.frp_graph.specs.Moments.{IsMoment}
+use Rattle.frp_graph.proofs.Nodes.{found_joined, each_holds}
 use Rattle.frp_core.specs.Small.{IsEarlier, IsSmall, AreSmallFrom}
 use Rattle.frp_core.specs.Engine.{sends_at, occ_at, sees, AreSettled, facts_of}
-use Rattle.frp_core.proofs.Lookups.{node_in_append}
 use Rattle.frp_core.proofs.Names.{name_same, declared_differs, declared_less}
 use Rattle.frp_core.proofs.Times.{all_mapped}
 
@@ -97,7 +99,7 @@ some_either (Some y) x = refl
 found_after : (front xs : List Node) → AllByRecursion (λ x. is_some (node_in (front ++ xs) x.name) ≡ true) xs
 found_after front [] = tt
 found_after front (x ∷ xs) = (
-  ap is_some (node_in_append front (x ∷ xs) x.name ∙ ap (or_else (node_in front x.name)) (rw (name_same x.name) refl)) ∙ some_either (node_in front x.name) x,
+  ap is_some (found_joined front (x ∷ xs) x.name ∙ ap (or_else (node_in front x.name)) (rw (name_same x.name) refl)) ∙ some_either (node_in front x.name) x,
   subst (λ ys. AllByRecursion (λ z. is_some (node_in ys z.name) ≡ true) xs) (append_assoc front (x ∷ []) xs) (found_after (front ++ x ∷ []) xs),
 )
 
@@ -109,7 +111,7 @@ found_all xs = found_after [] xs
 module _ (prog : Prog) (nodes : List Node) (sends : List Sent) (place : ℕ) (sent : Option Fact) (past : List Moment) (m : Moment) (occs : List (Option Val))
     (time : m.time ≡ place ∷ []) (fired : m.fired ≡ facts_of nodes occs) (small : AreSmallFrom 0 nodes)
     (same : length occs ≡ length nodes)
-    (agree : (n : Name) → sent_in sends (place ∷ []) n ≡ sent_in (sends_at place sent) (place ∷ []) n) where
+    (agree : (n : Name) → sent_in prog sends (place ∷ []) n ≡ sent_in prog (sends_at place sent) (place ∷ []) n) where
   found : (i : ℕ) → occ m (declared_name i) ≡ flat (slice_get occs i)
   found i = ap (λ fs. fact_in fs (declared_name i)) fired ∙ ap (λ j. fact_in (facts_of nodes occs) (declared_name j)) (sym (zero-add i)) ∙ fact_found 0 i nodes occs same small
 
@@ -117,7 +119,7 @@ module _ (prog : Prog) (nodes : List Node) (sends : List Sent) (place : ℕ) (se
   seen k n e = ap (occ m) e.1.1 ∙ found e.0 ∙ ap (λ j. flat (slice_get occs j)) (sym (ap item_of e.1.1))
 
   row_seen : (k : ℕ) (x : Node) (s : Shape) → IsSmall k s → row prog sends (sight_of past m) x s ≡ row prog (sends_at place sent) (sees place occs) x s
-  row_seen k x Sink h = ap (λ t. sent_in sends t x.name) time ∙ agree x.name
+  row_seen k x Sink h = ap (λ t. sent_in prog sends t x.name) time ∙ agree x.name
   row_seen k x Never h = refl
   row_seen k x (Map f s) h = ap (option_map _) (seen k s h)
   row_seen k x (Filter f s) h = ap (option_and_then _) (seen k s h)
@@ -133,11 +135,11 @@ module _ (prog : Prog) (nodes : List Node) (sends : List Sent) (place : ℕ) (se
     meets_from (k + 1) xs ys s.2 a.1 (λ i. let q : (k + 1) + i ≡ k + suc i = omega arith in ap (λ j. occ m (declared_name j)) q ∙ f (suc i)),
   )
 
-  pub new_moment : AreSettled prog place sent occs nodes occs → AreExactly prog (live (past ++ m ∷ [])) (sight_of past m) (made_at prog (live (past ++ m ∷ [])) (sight_of past m)) m.born
-      → IsStrictlySortedBy name_cmp (map (λ x. x.name) m.born) → live (past ++ m ∷ []) ≡ nodes → IsMoment prog sends past m
+  pub new_moment : AreSettled prog place sent occs nodes occs → AreExactly prog (sight_of past m) m.born → IsStrictlySortedBy name_cmp (map (λ x. x.name) m.born)
+      → live (past ++ m ∷ []) ≡ nodes → IsMoment prog sends past m
   new_moment a b r l = record {
-    born = b;
-    equations = subst (AllByRecursion (MeetsEquation prog sends (sight_of past m))) (sym l)
+    born_exactly = b;
+    equations = each_holds (sight_of past m) nodes (λ n. ap (λ (xs : List Node). node_in xs n) l) (MeetsEquation prog sends (sight_of past m))
         (meets_from 0 nodes occs small a (λ i. ap (λ j. occ m (declared_name j)) (zero-add i) ∙ found i));
     facts_of_live = subst (λ nodes. AllByRecursion (λ f. is_some (node_in nodes f.node) ≡ true) m.fired) (sym l)
         (subst (AllByRecursion (λ f. is_some (node_in nodes f.node) ≡ true)) (sym fired)

@@ -1,19 +1,22 @@
 -- One node more: its row reads only nodes before it, so a further occurrence changes no earlier row.
-use Rattle.std.proofs.Common.{◌≡◌, ℕ, ◌+◌, ◌<◌, ◌≤◌, suc, zero, List, [], ◌∷◌, ◌++◌, length, take, get_or, Option, refl, sym, ap, ◌∙◌, subst, arith, zero-add, add-zero}
-use Rattle.std.specs.Prelude.{slice_get, option_map, option_and_then}
+use Rattle.std.proofs.Common.{◌≡◌, ℕ, ◌+◌, ◌<◌, ◌≤◌, suc, zero, Bool, true, false, cond, List, [], ◌∷◌, ◌++◌, map, length, take, get_or, Option, Some, None, refl, sym, ap, ◌∙◌, subst, arith, zero-add, add-zero}
+use Rattle.std.specs.Prelude.{slice_get, option_map, option_and_then, if◌then◌else◌}
 use Rattle.std.proofs.lemmas.Grind.{common_steps}
 use Rattle.std.proofs.lemmas.List.{take_more}
 use Rattle.frp_base.specs.declared.name.Name.{Name}
 use Rattle.frp_base.specs.declared.val.Val.{Val}
-use Rattle.frp_base.specs.Name.{item_of}
+use Rattle.frp_base.specs.Name.{name_eq, item_of}
 use Rattle.frp_graph.specs.declared.trace.Node.{Node}
 use Rattle.frp_graph.specs.declared.trace.Fact.{Fact}
+use Rattle.frp_graph.specs.declared.trace.Sent.{Sent}
 use Rattle.frp_graph.specs.declared.prog.Prog.{Prog}
 use Rattle.frp_graph.specs.declared.shape.Shape.{Shape}
 use Rattle.frp_graph.specs.declared.shape.Shape.TheVariants.{Sink, Never, Map, Filter, Hold}
 use Rattle.frp_graph.specs.Equations.{row}
 use Rattle.frp_core.specs.Small.{IsEarlier, IsSmall, AreSmallFrom}
-use Rattle.frp_core.specs.Engine.{sends_at, occ_at, sees, AreSettled}
+use Rattle.frp_graph.specs.Sends.{join_of, combined, sent_in}
+use Rattle.frp_graph.proofs.Lists.{time_eq-same}
+use Rattle.frp_core.specs.Engine.{sent_to, sends_at, occ_at, sees, AreSettled}
 
 -- the node at a position of the nodes is small there
 pub small_at : (k : ℕ) (xs : List Node) (i : ℕ) (d : Node) → i < length xs → AreSmallFrom k xs → IsSmall (k + i) (get_or xs i d).shape
@@ -94,3 +97,11 @@ module _ (prog : Prog) (place : ℕ) (sent : Option Fact) where
       let n : length os ≡ length (take i nodes) = settled_length prog place sent os (take i nodes) os a in
       let l : 0 + i ≡ length os = zero-add i ∙ sym (n ∙ grind (arith, common_steps)) in
       subst (λ j. IsSmall j x.shape) l (subst (λ y. IsSmall (0 + i) y.shape) (sym e) (small_at 0 nodes i x h s))
+
+-- what is sent at a place to a sink, where one value at most is
+pub one_sent : (prog : Prog) (place : ℕ) (sent : Option Fact) (n : Name) → sent_in prog (sends_at place sent) (place ∷ []) n ≡ sent_to sent n
+one_sent prog place None n = refl
+one_sent prog place (Some f) n = rw (time_eq-same (place ∷ [])) (by (name_eq f.node n)) where
+  by : (b : Bool) → combined prog (join_of prog n) (map (λ (s : Sent). s.value) (cond b (record { place = place; part = 0; sink = f.node; value = f.value } ∷ []) [])) ≡ (if b then Some f.value else None)
+  by true = refl
+  by false = refl

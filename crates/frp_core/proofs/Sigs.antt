@@ -5,11 +5,10 @@ use Rattle.std.proofs.lemmas.Option.{slice_get-map}
 use Rattle.frp_base.specs.declared.ty.Ty.{Ty}
 use Rattle.frp_expr.specs.Values.{each_of}
 use Rattle.frp_graph.specs.declared.prog.Prog.{Prog}
-use Rattle.frp_graph.specs.Values.{sigs}
-use Rattle.frp_core.specs.Engine.{sig}
+use Rattle.frp_graph.specs.TypedProg.{sig_of, sigs}
 
-pub sig_at : (prog : Prog) (f : ℕ) → slice_get (sigs prog) f ≡ option_map sig (slice_get prog.funs f)
-sig_at prog f = slice_get-map sig prog.funs f
+pub sig_at : (prog : Prog) (f : ℕ) → slice_get (sigs prog) f ≡ option_map sig_of (slice_get prog.funs f)
+sig_at prog f = slice_get-map sig_of prog.funs f
 
 and_false : (a b : Bool) → b ≡ false → a && b ≡ false
 and_false true b e = e

@@ -1,25 +1,24 @@
 -- A trace whose times are those of a history is one of the program.
-use Rattle.std.proofs.Common.{◌≡◌, ℕ, ◌+◌, Bool, true, false, cond, List, [], ◌∷◌, ◌++◌, map, Option, Some, None, refl, sym, ap, ◌∙◌, subst, arith, append_assoc}
-use Rattle.std.specs.Prelude.{is_some, filter, nat_lt, ◌||◌, ◌&&◌, if◌then◌else◌}
+use Rattle.std.proofs.Common.{◌≡◌, ℕ, ◌+◌, Bool, true, false, cond, List, [], ◌∷◌, map, Option, Some, None, refl, sym, ap, ◌∙◌, subst, arith}
+use Rattle.std.specs.Prelude.{is_some, filter, nat_lt, ◌||◌, if◌then◌else◌}
 use Rattle.std.specs.List.{AllByRecursion, list_any}
 use Rattle.std.specs.List.Sorted.{IsStrictlySortedBy}
 use Rattle.std.proofs.lemmas.Bool.Decides.{nat_tests}
 use Rattle.frp_base.specs.declared.time.Time.{Time}
-use Rattle.frp_base.specs.declared.name.Name.{Name}
 use Rattle.frp_base.specs.Time.{time_eq, time_cmp, parent_and_number}
-use Rattle.frp_base.specs.Name.{name_eq}
 use Rattle.frp_graph.specs.declared.trace.Node.{Node}
 use Rattle.frp_graph.specs.declared.trace.Moment.{Moment}
 use Rattle.frp_graph.specs.declared.prog.Prog.{Prog}
 use Rattle.frp_graph.specs.declared.shape.Shape.{Shape}
 use Rattle.frp_graph.specs.declared.shape.Shape.TheVariants.{Sink, Never, Map, Filter, Hold}
-use Rattle.frp_graph.specs.declared.history.Entry.{Entry}
-use Rattle.frp_graph.specs.Trace.{live, moment_at, sight_of, Sight}
-use Rattle.frp_graph.specs.Equations.{Sent, sent_in, row}
-use Rattle.frp_graph.specs.Moments.{build, items_to_split, splits_at, live_at, is_child_due, is_due, IsMoment, IsTrace, AtEach}
-use Rattle.frp_graph.specs.History.{sends_of}
+use Rattle.frp_history.specs.declared.history.Entry.{Entry}
+use Rattle.frp_graph.specs.declared.trace.Sent.{Sent}
+use Rattle.frp_graph.specs.Trace.{live, moment_at}
+use Rattle.frp_graph.specs.Births.{build}
+use Rattle.frp_graph.specs.Moments.{items_to_split, splits_at, live_at, is_child_due, is_due, IsMoment, IsTrace, AtEach}
+use Rattle.frp_history.specs.History.{sends_of}
 use Rattle.frp_core.specs.Small.{IsSmall, AreSmallFrom}
-use Rattle.frp_core.specs.Core.{times_of}
+use Rattle.frp_core.specs.Core.{times_of, IsSingle}
 use Rattle.frp_core.proofs.Times.{at_place, times_rise, all_left, all_right, all_both, all_follow}
 
 -- Due times.
@@ -83,49 +82,9 @@ module _ (trace : List Moment) (small : AreSmallFrom 0 (live trace)) where
       ∙ sym (or_false _ _ (no_child (parent_and_number t)))
 
   -- a trace with the times of a history, whose moments are the program's
-  pub is_trace : (prog : Prog) (entries : List Entry) → map (λ m. m.time) trace ≡ times_of entries → AtEach (IsMoment prog (sends_of entries)) [] trace → IsTrace prog (sends_of entries) trace
-  is_trace prog entries e a = record {
-    rising = subst (IsStrictlySortedBy time_cmp) (sym e) (times_rise entries);
+  pub is_trace : (prog : Prog) (entries : List Entry) → AllByRecursion (λ e. IsSingle e.cmd) entries → map (λ m. m.time) trace ≡ times_of entries → AtEach (IsMoment prog (sends_of entries)) [] trace → IsTrace prog (sends_of entries) trace
+  is_trace prog entries single e a = record {
+    rising = subst (IsStrictlySortedBy time_cmp) (sym e) (times_rise entries single);
     due = due_times (sends_of entries) e;
     moments = a;
   }
-
--- Other sends leave a moment as it was, where they agree at its time.
-
-row_sends : (prog : Prog) (sends others : List Sent) (w : Sight) (x : Node) (s : Shape) → ((n : Name) → sent_in sends w.time n ≡ sent_in others w.time n) → row prog sends w x s ≡ row prog others w x s
-row_sends prog sends others w x Sink h = h x.name
-row_sends prog sends others w x _ h = refl
-
-pub moment_sends : (prog : Prog) (sends others : List Sent) (past : List Moment) (m : Moment) → ((n : Name) → sent_in sends m.time n ≡ sent_in others m.time n) → IsMoment prog sends past m → IsMoment prog others past m
-moment_sends prog sends others past m h i = record {
-  born = i.born;
-  equations = all_follow _ _ (λ x e. e ∙ row_sends prog sends others (sight_of past m) x x.shape h) (live (past ++ m ∷ [])) i.equations;
-  facts_of_live = i.facts_of_live;
-  born_rise = i.born_rise;
-  fired_rise = i.fired_rise;
-}
-
--- one send more changes nothing at other times
-pub sent_more : (sends : List Sent) (s : Sent) (t : Time) (n : Name) → time_eq t (s.place ∷ []) ≡ false → sent_in sends t n ≡ sent_in (sends ++ s ∷ []) t n
-sent_more [] s t n e = rw e refl
-sent_more (r ∷ sends) s t n e = ap (λ o. if time_eq t (r.place ∷ []) && name_eq r.sink n then Some r.value else o) (sent_more sends s t n e)
-
--- at a time of none of these sends, the last send is all that is sent
-pub sent_last : (sends : List Sent) (s : Sent) (t : Time) (n : Name) → AllByRecursion (λ r. time_eq t (r.place ∷ []) ≡ false) sends → sent_in (sends ++ s ∷ []) t n ≡ sent_in (s ∷ []) t n
-sent_last [] s t n h = refl
-sent_last (r ∷ sends) s t n h = rw h.0 (sent_last sends s t n h.1)
-
-pub sent_none : (sends : List Sent) (t : Time) (n : Name) → AllByRecursion (λ r. time_eq t (r.place ∷ []) ≡ false) sends → sent_in sends t n ≡ None
-sent_none [] t n h = refl
-sent_none (r ∷ sends) t n h = rw h.0 (sent_none sends t n h.1)
-
--- what holds at each moment, where another fact of each moment helps
-pub each_with : (P Q : List Moment → Moment → Type 0) (R : Moment → Type 0) → ((past : List Moment) (m : Moment) → P past m → R m → Q past m)
-    → (past ms : List Moment) → AtEach P past ms → AllByRecursion R ms → AtEach Q past ms
-each_with P Q R f past [] h r = tt
-each_with P Q R f past (m ∷ ms) h r = (f past m h.0 r.0, each_with P Q R f (past ++ m ∷ []) ms h.1 r.1)
-
--- births add up
-pub live_append : (ms ks : List Moment) → live (ms ++ ks) ≡ live ms ++ live ks
-live_append [] ks = refl
-live_append (m ∷ ms) ks = ap (λ xs. m.born ++ xs) (live_append ms ks) ∙ sym (append_assoc m.born (live ms) (live ks))

@@ -1,20 +1,24 @@
 -- What the plain engine makes of a moment: an occurrence or none for each node, in the order of the nodes.
-use Rattle.std.specs.Prelude.{◌≡◌, ℕ, List, [], ◌∷◌, Option, Some, None, option_and_then, slice_get, ⊤}
+use Rattle.std.specs.Prelude.{◌≡◌, ℕ, List, [], ◌∷◌, Option, Some, None, option_and_then, slice_get, if◌then◌else◌, ⊤}
 use Rattle.frp_base.specs.declared.name.Name.{Name}
 use Rattle.frp_base.specs.declared.val.Val.{Val}
-use Rattle.frp_base.specs.Name.{item_of}
+use Rattle.frp_base.specs.Name.{name_eq, item_of}
 use Rattle.frp_graph.specs.declared.trace.Node.{Node}
 use Rattle.frp_graph.specs.declared.trace.Fact.{Fact}
+use Rattle.frp_graph.specs.declared.trace.Sent.{Sent}
 use Rattle.frp_graph.specs.declared.prog.Prog.{Prog}
-use Rattle.frp_graph.specs.declared.prog.FunDef.{FunDef}
-use Rattle.frp_expr.specs.Typing.{Sig}
 use Rattle.frp_graph.specs.Trace.{Sight}
-use Rattle.frp_graph.specs.Equations.{Sent, row}
+use Rattle.frp_graph.specs.Equations.{row}
 
 -- the send at a place, where there is one
 abbrev pub sends_at : ℕ → Option Fact → List Sent
 sends_at place None = []
-sends_at place (Some f) = record { place = place; sink = f.node; value = f.value } ∷ []
+sends_at place (Some f) = record { place = place; part = 0; sink = f.node; value = f.value } ∷ []
+
+-- what is sent to the node of a name
+abbrev pub sent_to : Option Fact → Name → Option Val
+sent_to None n = None
+sent_to (Some f) n = if name_eq f.node n then Some f.value else None
 
 -- the occurrence of a declared node, by the number of its item
 abbrev pub occ_at : List (Option Val) → Name → Option Val
@@ -22,7 +26,7 @@ occ_at occs n = option_and_then (λ (o : Option Val). o) (slice_get occs (item_o
 
 -- what is seen of these occurrences at the time of a place
 abbrev pub sees : ℕ → List (Option Val) → Sight
-sees place occs = record { time = place ∷ []; occ = occ_at occs; pre = λ n. None; above = λ n. None }
+sees place occs = record { time = place ∷ []; node = λ n. None; occ = occ_at occs; pre = λ n. None; above = λ n. None }
 
 -- each node's occurrence is the one of its row, where all the occurrences are seen
 abbrev pub AreSettled : Prog → ℕ → Option Fact → List (Option Val) → List Node → List (Option Val) → Type 0
@@ -41,7 +45,3 @@ pub record AreFacts (prog : Prog) (nodes : List Node) (place : ℕ) (sent : Opti
   pub occs : List (Option Val)
   pub settled : AreSettled prog place sent occs nodes occs
   pub fired : facts ≡ facts_of nodes occs
-
--- the types of a function
-abbrev pub sig : FunDef → Sig
-sig d = record { kept = d.kept; arg = d.arg; result = d.result }

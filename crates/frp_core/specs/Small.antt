@@ -1,8 +1,7 @@
 -- The programs that are run so far: each line makes a node of a shape that is built. What they make: node k is that of item
 -- k, and reads earlier nodes only.
-use Rattle.std.specs.Prelude.{◌≡◌, ℕ, ◌+◌, ◌<◌, Bool, true, false, List, [], ◌∷◌, Option, Some, IsTrue, length, slice_get, ⊤}
+use Rattle.std.specs.Prelude.{◌≡◌, ℕ, ◌+◌, ◌<◌, Bool, true, false, List, [], ◌∷◌, length, ⊤}
 use Rattle.std.specs.List.{list_all}
-use Rattle.frp_base.specs.declared.val.Val.{Val}
 use Rattle.frp_base.specs.declared.name.Name.{Name}
 use Rattle.frp_base.specs.Name.{declared_name}
 use Rattle.frp_graph.specs.declared.prog.Prog.{Prog}
@@ -13,8 +12,6 @@ use Rattle.frp_graph.specs.declared.prog.LineShape.TheVariants as l
 use Rattle.frp_graph.specs.declared.shape.Shape.{Shape}
 use Rattle.frp_graph.specs.declared.shape.Shape.TheVariants.{Sink, Never, Map, Filter, Hold}
 use Rattle.frp_graph.specs.declared.trace.Node.{Node}
-use Rattle.frp_graph.specs.declared.trace.Fact.{Fact}
-use Rattle.frp_graph.specs.Values.{fits_node}
 
 -- whether a line makes a node of a shape that is built
 abbrev pub is_built_shape : LineShape → Bool
@@ -32,19 +29,6 @@ is_built_line (line.Get c) = false
 -- whether each line of a program does
 abbrev pub is_built : Prog → Bool
 is_built prog = list_all is_built_line prog.body.lines
-
--- a line of the program makes the node of this name
-abbrev pub HasNode : Prog → Name → Type 0
-HasNode prog n = (k : ℕ) × ((k < length prog.body.lines) × (n ≡ declared_name k))
-
--- whether a line makes a sink for this value: the value is of its type, and refers to no node
-abbrev pub takes : Prog → Val → Option Line3 → Bool
-takes prog v (Some (line.Node ty l.Sink)) = fits_node prog [] ty v
-takes prog v _ = false
-
--- a line of the program makes the sink of a send, for its value
-abbrev pub HasSink : Prog → Fact → Type 0
-HasSink prog f = (k : ℕ) × (IsTrue (takes prog f.value (slice_get prog.body.lines k)) × (f.node ≡ declared_name k))
 
 -- the name is that of an item before item k
 abbrev pub IsEarlier : ℕ → Name → Type 0

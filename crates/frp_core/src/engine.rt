@@ -4,10 +4,10 @@ ghost use Rattle.std.specs.Prelude.{◌≡◌, [], ◌∷◌, IfOk, Some, length
 ghost use Rattle.std.specs.Option.{option_copied};
 ghost use Rattle.frp_graph.specs.Applied.{code_on};
 ghost use Rattle.frp_base.specs.declared.val.Val.{out-Val};
-ghost use Rattle.frp_graph.specs.Equations.{row, sent_in, keep_if};
+ghost use Rattle.frp_graph.specs.Equations.{row, keep_if};
 ghost use Rattle.frp_expr.specs.Parts.{bool_in};
 ghost use Rattle.frp_core.specs.Small.{AreSmallFrom, IsSmall};
-ghost use Rattle.frp_core.specs.Engine.{occ_at, sends_at, sees, AreSettled, facts_of, AreFacts};
+ghost use Rattle.frp_core.specs.Engine.{occ_at, sent_to, sends_at, sees, AreSettled, facts_of, AreFacts};
 
 use frp_base::{Memory, Name, Seq, Val};
 use frp_expr::eval;
@@ -49,6 +49,7 @@ fn occurrences(
 }
 
 /// The occurrence of a node over those of the nodes before it.
+#[tactic(auto, using(crate::proofs::Settling::one_sent))]
 fn occurrence(
     alloc: Global,
     prog: &Prog,
@@ -61,7 +62,7 @@ fn occurrence(
     ensures { IfOk result (λ o. o ≡ row prog.now (sends_at place (option_copied sent.entry)) (sees place occs.now) node.now node.now.shape) }
 {
     match &node.shape {
-        Shape::Sink => sent_to(alloc, place, sent, &node.name),
+        Shape::Sink => sent_to(alloc, sent, &node.name),
         Shape::Never => Ok(None),
         Shape::Map { f, s } => match occurrence_of(occs, s) {
             Some(value) => Ok(Some(applied(alloc, prog.codes.as_slice(), f, value)?)),
@@ -80,13 +81,8 @@ fn occurrence(
 }
 
 /// What is sent to a sink of this name.
-fn sent_to(
-    alloc: Global,
-    place: u64,
-    sent: Option<&Fact>,
-    name: &Name,
-) -> Result<Option<Val>, Memory>
-    ensures { IfOk result (λ o. o ≡ sent_in (sends_at place (option_copied sent.entry)) (place ∷ []) name.now) }
+fn sent_to(alloc: Global, sent: Option<&Fact>, name: &Name) -> Result<Option<Val>, Memory>
+    ensures { IfOk result (λ o. o ≡ sent_to (option_copied sent.entry) name.now) }
 {
     match sent {
         Some(fact) => {

@@ -3,10 +3,11 @@
 ghost use Rattle.std.specs.Prelude.{◌≡◌, ◌&&◌, map, option_map, slice_get};
 ghost use Rattle.std.specs.Option.{option_copied};
 ghost use Rattle.frp_base.specs.Ty.{ty_eq};
-ghost use Rattle.frp_core.specs.Engine.{sig};
 ghost use Rattle.frp_expr.specs.Types.{fits as fits_in};
 ghost use Rattle.frp_expr.specs.Values.{is_node_of, all_of, each_of, is_closed_of};
-ghost use Rattle.frp_graph.specs.Values.{type_among, sigs, is_value, fits_node};
+ghost use Rattle.frp_graph.specs.Trace.{node_in};
+ghost use Rattle.frp_graph.specs.TypedProg.{sig_of, sigs};
+ghost use Rattle.frp_graph.specs.Values.{type_among, is_value, fits_node};
 
 use crate::windows::node_of;
 use frp_base::{Name, Ty, Val};
@@ -18,7 +19,7 @@ const MOST: usize = 1024;
 
 /// Whether a value is one that a node of this type holds, among these nodes and functions.
 pub fn fits(prog: &Prog, nodes: &[Node], ty: &Ty, value: &Val) -> bool
-    ensures { result ≡ fits_node prog.now nodes.now ty.now value.now }
+    ensures { result ≡ fits_node prog.now (node_in nodes.now) ty.now value.now }
 {
     match ty {
         Ty::Stream(held) | Ty::Cell(held) => is_value(prog, nodes, value, held.get()),
@@ -29,7 +30,7 @@ pub fn fits(prog: &Prog, nodes: &[Node], ty: &Ty, value: &Val) -> bool
 /// Whether a value is of a type.
 #[cycle(is_value)]
 fn is_value(prog: &Prog, nodes: &[Node], value: &Val, ty: &Ty) -> bool
-    ensures { result ≡ is_value prog.now nodes.now value.now ty.now }
+    ensures { result ≡ is_value prog.now (node_in nodes.now) value.now ty.now }
 {
     match value {
         Val::Int(n) => matches!(ty, Ty::Int) && has_64_bits(*n),
@@ -56,13 +57,18 @@ fn is_value(prog: &Prog, nodes: &[Node], value: &Val, ty: &Ty) -> bool
             }
             _ => false,
         },
+        Val::Absent => matches!(ty, Ty::Option(_)),
+        Val::Present(x) => match ty {
+            Ty::Option(a) => is_value(prog, nodes, x.get(), a.get()),
+            _ => false,
+        },
     }
 }
 
 /// Whether these are the kept values of a function with this argument and result.
 #[cycle(is_value)]
 fn is_closed(prog: &Prog, nodes: &[Node], f: u32, kept: &[Val], arg: &Ty, gives: &Ty) -> bool
-    ensures { result ≡ is_closed_of (map (is_value prog.now nodes.now) kept.now) arg.now gives.now (slice_get (sigs prog.now) f) }
+    ensures { result ≡ is_closed_of (map (is_value prog.now (node_in nodes.now)) kept.now) arg.now gives.now (slice_get (sigs prog.now) f) }
 {
     match fun_at(prog, f) {
         Some(fun) => { are_values(prog, nodes, kept, fun.kept.as_slice()) && goes(fun, arg, gives) }
@@ -73,7 +79,7 @@ fn is_closed(prog: &Prog, nodes: &[Node], f: u32, kept: &[Val], arg: &Ty, gives:
 /// The function of a number.
 #[tactic(auto, using(crate::proofs::Sigs::sig_at))]
 fn fun_at(prog: &Prog, f: u32) -> Option<&FunDef>
-    ensures { slice_get (sigs prog.now) f ≡ option_map sig (option_copied result) }
+    ensures { slice_get (sigs prog.now) f ≡ option_map sig_of (option_copied result) }
 {
     prog.funs.as_slice().get(f as usize)
 }
@@ -88,7 +94,7 @@ fn goes(fun: &FunDef, arg: &Ty, gives: &Ty) -> bool
 /// Whether each of these values is of a type.
 #[cycle(is_value)]
 fn all_are(prog: &Prog, nodes: &[Node], values: &[Val], ty: &Ty) -> bool
-    ensures { result ≡ all_of (map (is_value prog.now nodes.now) values.now) ty.now }
+    ensures { result ≡ all_of (map (is_value prog.now (node_in nodes.now)) values.now) ty.now }
 {
     for value in values {
         if !is_value(prog, nodes, value, ty) {
@@ -101,7 +107,7 @@ fn all_are(prog: &Prog, nodes: &[Node], values: &[Val], ty: &Ty) -> bool
 /// Whether these values are of these types, one by one.
 #[cycle(is_value)]
 fn are_values(prog: &Prog, nodes: &[Node], values: &[Val], tys: &[Ty]) -> bool
-    ensures { result ≡ each_of (map (is_value prog.now nodes.now) values.now) tys.now }
+    ensures { result ≡ each_of (map (is_value prog.now (node_in nodes.now)) values.now) tys.now }
 {
     if values.len() != tys.len() {
         return false;
@@ -125,7 +131,7 @@ fn has_64_bits(n: i64) -> bool
 
 /// Whether a node of this name has this type.
 fn is_node(nodes: &[Node], name: &Name, ty: &Ty) -> bool
-    ensures { result ≡ is_node_of ty.now (type_among nodes.now name.now) }
+    ensures { result ≡ is_node_of ty.now (type_among (node_in nodes.now) name.now) }
 {
     match node_of(nodes, name) {
         Some(node) => node.ty.is(ty),

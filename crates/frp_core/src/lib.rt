@@ -3,8 +3,11 @@
 
 mod engine;
 mod fits;
+mod listeners;
 mod machine;
 mod nodes;
+mod stop;
 mod windows;
 
 pub use machine::Core;
+pub use stop::Stop;

@@ -1,51 +1,17 @@
 //! The nodes of a file, as its lines make them.
 
-ghost use Rattle.std.specs.Prelude.{◌≡◌, ◌++◌, ◌∷◌, [], IsTrue, IfOk, length, slice_index_or};
+ghost use Rattle.std.specs.Prelude.{◌≡◌, ◌++◌, ◌∷◌, [], IsTrue, IfOk, OnOk, length, slice_index_or};
 ghost use Rattle.frp_base.specs.Name.{declared_name};
 ghost use Rattle.frp_expr.specs.Parts.{zero_val};
 ghost use Rattle.frp_graph.specs.TypedProg.{IsTypedProg};
 ghost use Rattle.frp_graph.specs.Births.{reference, lam_of, node_of, shape_of, given_by};
-ghost use Rattle.frp_core.specs.Small.{is_built, is_built_line, is_built_shape, IsEarlier, AreSmallFrom};
+ghost use Rattle.frp_core.specs.Small.{is_built, IsEarlier, AreSmallFrom};
 ghost use Rattle.frp_core.specs.Nodes.{line_node, with_line, line_nodes, IsReady, AreReady};
 
 use frp_base::{Memory, Name, Seq, Ty, Val};
 use frp_expr::eval;
 use frp_graph::{Expr, Lam, Line3, LineLam, LineShape, Node, Prog, Shape};
 use std::alloc::Global;
-
-/// Whether each line of a program makes a node of a shape that is built.
-pub fn is_built(prog: &Prog) -> bool
-    ensures { result ≡ is_built prog.now }
-{
-    for line in prog.body.lines.as_slice() {
-        if !is_built_line(line) {
-            return false;
-        }
-    }
-    true
-}
-
-fn is_built_line(line: &Line3) -> bool
-    ensures { result ≡ is_built_line line.now }
-{
-    match line {
-        Line3::Node { shape, .. } => is_built_shape(shape),
-        Line3::Get { .. } => false,
-    }
-}
-
-fn is_built_shape(shape: &LineShape) -> bool
-    ensures { result ≡ is_built_shape shape.now }
-{
-    match shape {
-        LineShape::Sink => true,
-        LineShape::Never => true,
-        LineShape::Map { .. } => true,
-        LineShape::Filter { .. } => true,
-        LineShape::Hold { .. } => true,
-        _ => false,
-    }
-}
 
 /// The nodes of a program's file, in the order of its lines.
 pub fn first_nodes(alloc: Global, prog: &Prog) -> Result<Seq<Node>, Memory>
@@ -67,9 +33,8 @@ fn nodes_of(alloc: Global, lines: &[Line3]) -> Result<Seq<Node>, Memory>
     for line in lines {
         match line {
             Line3::Node { ty, shape } => {
-                let node = node(alloc, refs.as_slice(), ty, shape)?;
-                refs.add(reference(ty, node.name.copy()?))?;
-                nodes.add(node)?;
+                add_node(alloc, refs.as_slice(), ty, shape, &mut nodes)?;
+                add_reference(alloc, ty, &mut refs)?;
             }
             Line3::Get { .. } => unreachable!(),
         }
@@ -77,16 +42,43 @@ fn nodes_of(alloc: Global, lines: &[Line3]) -> Result<Seq<Node>, Memory>
     Ok(nodes)
 }
 
+/// Adds the node of a line of this type and shape.
+fn add_node(
+    alloc: Global,
+    refs: &[Val],
+    ty: &Ty,
+    shape: &LineShape,
+    nodes: &mut Seq<Node>,
+) -> Result<(), Memory>
+    requires { IsReady refs.now shape.now }
+    ensures { OnOk result (nodes.new ≡ nodes.old ++ line_node refs.now ty.now shape.now ∷ []) }
+{
+    let node = node(alloc, refs, ty, shape)?;
+    nodes.add(node)
+}
+
+/// Adds the reference to the next node, which is of this type.
+fn add_reference(alloc: Global, ty: &Ty, refs: &mut Seq<Val>) -> Result<(), Memory>
+    ensures { OnOk result (refs.new ≡ refs.old ++ reference ty.now (declared_name (length refs.old)) ∷ []) }
+{
+    let name = Name::declared(alloc, refs.as_slice().len() as u64)?;
+    refs.add(reference(ty, name))
+}
+
 /// The node of a line of this type and shape, over references to the nodes of the lines before it.
 fn node(alloc: Global, refs: &[Val], ty: &Ty, shape: &LineShape) -> Result<Node, Memory>
     requires { IsReady refs.now shape.now }
     ensures { IfOk result (λ node. node ≡ line_node refs.now ty.now shape.now) }
 {
+    let name = Name::declared(alloc, refs.len() as u64)?;
+    let ty = ty.copy(alloc)?;
+    let first = first_value(alloc, refs, shape)?;
+    let shape = node_shape(alloc, refs, shape)?;
     Ok(Node {
-        name: Name::declared(alloc, refs.len() as u64)?,
-        shape: node_shape(alloc, refs, shape)?,
-        ty: ty.copy(alloc)?,
-        first: first_value(alloc, refs, shape)?,
+        name,
+        shape,
+        ty,
+        first,
     })
 }
 

@@ -1,4 +1,3 @@
-pub mod Tests
 pub mod TypeLemmas
 pub mod NumberLemmas
 pub mod ValueLemmas
@@ -8,3 +7,4 @@ pub mod TypingAgrees
 pub mod Places
 pub mod Answering
 pub mod ValuesStay
+pub mod MoreFuns

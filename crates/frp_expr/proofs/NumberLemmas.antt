@@ -11,7 +11,7 @@ use Rattle.std.proofs.lemmas.Int.{SFits-int_wrap}
 use Rattle.std.proofs.lemmas.Grind.{common_steps}
 use Rattle.std.proofs.lemmas.Fmt.{length_signed_le, decimal_by_steps}
 use Rattle.std.proofs.lemmas.List.Folds.{list_all-append}
-use Rattle.frp_expr.proofs.Tests.{both_true}
+use Rattle.frp_base.proofs.Booleans.{both_true}
 use Rattle.frp_expr.specs.Operators.{wrapped, quotient, remainder, most, cut}
 use Rattle.frp_expr.specs.Types.{fits, is_printable, is_text}
 

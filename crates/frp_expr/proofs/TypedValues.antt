@@ -18,7 +18,7 @@ use Rattle.frp_expr.specs.declared.expr.Expr.{Expr, roll-Expr}
 use Rattle.frp_expr.specs.declared.expr.Expr.TheOpen.{Expr-F}
 use Rattle.frp_expr.specs.declared.expr.Expr.TheOpen as e
 use Rattle.frp_expr.specs.declared.expr.Expr.TheFolds.{fold-roll-Expr, map-Expr, ind-Expr}
-use Rattle.frp_expr.proofs.Tests.{both_true, true_both}
+use Rattle.frp_base.proofs.Booleans.{both_true, true_both}
 use Rattle.frp_expr.proofs.TypeLemmas.{bind_some, given_some, has_some, first_is, second_is, item_is, list_of_items}
 use Rattle.frp_expr.proofs.NumberLemmas.{wrapped_fits, quotient_fits, remainder_fits, length_fits, shown_is_text, joined_is_text, length_take}
 use Rattle.frp_expr.proofs.ValueLemmas.{AllOf, int_is, int_parts, bool_is, text_is, text_parts, pair_is, pair_parts, list_is, list_parts, len_parts, closed_is, all_append, all_take, at_is, variable_is, are_more}

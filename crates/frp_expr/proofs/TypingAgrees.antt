@@ -12,7 +12,7 @@ use Rattle.frp_base.specs.declared.ty.Ty.TheVariants as t
 use Rattle.frp_base.specs.declared.ty.Ty.TheOpen as u
 use Rattle.frp_base.specs.declared.ty.Ty.TheFolds.{fold-roll-Ty}
 use Rattle.frp_expr.specs.Operators.{most}
-use Rattle.frp_expr.specs.Types.{given, is_plain, is_plain_step, is_list, is_comparable, first_type, second_type, item_type, has_length}
+use Rattle.frp_expr.specs.Types.{given, is_plain, kind_step, is_list, is_comparable, first_type, second_type, item_type, has_length}
 use Rattle.frp_expr.specs.Typing.{Sig, Kind, has, all_have, each_has, list_kind, type_step, type_in}
 use Rattle.frp_expr.specs.Scope.{Named, Fun, number_of, names_of, types_of, fun_names, sigs_of}
 use Rattle.frp_expr.specs.Raw.{Outcome, ◌>>=◌, or_fault, Part, part_as, items_as, list_of, kept_as, close_of, item_by, TyPart, ty_part, ty_of, ty_of_step, written_step, FormTyping, typing_step, part_of, typing, Standing, each_resolved, resolve_step, resolve, is_lawful_step, is_lawful}
@@ -28,7 +28,7 @@ use Rattle.frp_expr.specs.declared.raw.TyForm.TheOpen as y
 use Rattle.frp_expr.specs.declared.raw.Raw.{Raw, roll-Raw, fold-roll-Raw, map-Raw, ind-Raw, Raw-F}
 use Rattle.frp_expr.specs.declared.raw.RawForm.{RawForm, RawForm-F, roll-RawForm, fold-RawForm, fold-roll-RawForm, map-RawForm}
 use Rattle.frp_expr.specs.declared.raw.RawForm.TheOpen as o
-use Rattle.frp_expr.proofs.Tests.{both_true}
+use Rattle.frp_base.proofs.Booleans.{both_true}
 use Rattle.frp_expr.proofs.Outcomes.{next, ok_bind, ok_or_fault, part_ok, as_ok, as_then, as_so, two_ok, first_then, guarded}
 
 -- Written types: one that is plain has no fault, and one that has a fault is not plain.
@@ -48,19 +48,19 @@ abbrev SuchTyForm : Type 0
 SuchTyForm = (f : TyForm) × Plainly (form_written f) (form_ty f)
 
 list_not_plain : (a : Ty) → is_plain (t.List a) ≡ false
-list_not_plain a = ap is_plain (sym (t.rolls-List a)) ∙ fold-roll-Ty Bool is_plain_step (u.List a)
+list_not_plain a = ap is_plain (sym (t.rolls-List a)) ∙ ap (λ (k : Bool × Bool). k.1) (fold-roll-Ty (Bool × Bool) kind_step (u.List a))
 
 stream_not_plain : (a : Ty) → is_plain (t.Stream a) ≡ false
-stream_not_plain a = ap is_plain (sym (t.rolls-Stream a)) ∙ fold-roll-Ty Bool is_plain_step (u.Stream a)
+stream_not_plain a = ap is_plain (sym (t.rolls-Stream a)) ∙ ap (λ (k : Bool × Bool). k.1) (fold-roll-Ty (Bool × Bool) kind_step (u.Stream a))
 
 cell_not_plain : (a : Ty) → is_plain (t.Cell a) ≡ false
-cell_not_plain a = ap is_plain (sym (t.rolls-Cell a)) ∙ fold-roll-Ty Bool is_plain_step (u.Cell a)
+cell_not_plain a = ap is_plain (sym (t.rolls-Cell a)) ∙ ap (λ (k : Bool × Bool). k.1) (fold-roll-Ty (Bool × Bool) kind_step (u.Cell a))
 
 fun_not_plain : (a b : Ty) → is_plain (t.Fun a b) ≡ false
-fun_not_plain a b = ap is_plain (sym (t.rolls-Fun a b)) ∙ fold-roll-Ty Bool is_plain_step (u.Fun a b)
+fun_not_plain a b = ap is_plain (sym (t.rolls-Fun a b)) ∙ ap (λ (k : Bool × Bool). k.1) (fold-roll-Ty (Bool × Bool) kind_step (u.Fun a b))
 
 pair_plain : (a b : Ty) → is_plain (t.Pair a b) ≡ is_plain a && is_plain b
-pair_plain a b = ap is_plain (sym (t.rolls-Pair a b)) ∙ fold-roll-Ty Bool is_plain_step (u.Pair a b)
+pair_plain a b = ap is_plain (sym (t.rolls-Pair a b)) ∙ ap (λ (k : Bool × Bool). k.1) (fold-roll-Ty (Bool × Bool) kind_step (u.Pair a b))
 
 -- an outcome is a type or a fault
 either : (w : Outcome Ty) → ((a : Ty) × (w ≡ Ok a)) ⊎ (result_ok w ≡ None)

@@ -13,7 +13,7 @@ use Rattle.frp_base.specs.declared.val.Val.TheOpen as o
 use Rattle.frp_base.specs.declared.val.Val.TheVariants as v
 use Rattle.frp_base.specs.declared.val.Val.TheFolds.{fold-roll-Val, map-Val}
 use Rattle.frp_base.proofs.TyLemmas.{ty_decides}
-use Rattle.frp_expr.proofs.Tests.{both_true, true_both}
+use Rattle.frp_base.proofs.Booleans.{both_true, true_both}
 use Rattle.frp_expr.specs.Parts.{len_in, len_of, int_in, int_of, first_in, second_in, items_in, text_in, first_of, second_of, items_of, text_of, zero_val}
 use Rattle.frp_expr.specs.Operators.{most, item_at}
 use Rattle.frp_expr.specs.Types.{fits, is_text}

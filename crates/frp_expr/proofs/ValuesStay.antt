@@ -13,7 +13,7 @@ use Rattle.frp_base.specs.declared.val.Val.TheFolds.{fold-roll-Val, map-Val, ind
 use Rattle.frp_expr.specs.Operators.{most}
 use Rattle.frp_expr.specs.Typing.{Sig}
 use Rattle.frp_expr.specs.Values.{is_node_of, all_of, each_of, is_closed_of, is_of_step, is_of}
-use Rattle.frp_expr.proofs.Tests.{both_true, true_both}
+use Rattle.frp_base.proofs.Booleans.{both_true, true_both}
 
 module _ (few many : Name → Option Ty) (sigs : List Sig) (more : (n : Name) (y : Ty) → few n ≡ Some y → many n ≡ Some y) where
   abbrev Stays : Val → Type 0
@@ -68,6 +68,8 @@ module _ (few many : Name → Option Ty) (sigs : List Sig) (more : (n : Name) (y
   layer_stays (o.Stream n) x (u.Stream a) h = node_stays x (few n) (many n) (more n) h
   layer_stays (o.Cell n) x (u.Cell a) h = node_stays x (few n) (many n) (more n) h
   layer_stays (o.Fun f ys) x (u.Fun a b) h = closed_stays ys a b (slice_get sigs f) h
+  layer_stays o.Absent x (u.Option a) h = h
+  layer_stays (o.Present p) x (u.Option a) h = p.1 a h
   layer_stays _ x _ h = absurd cc
 
   rolled : (l : Val-F Such) → Stays (roll-Val (map-Val Such Val plain l))

@@ -11,3 +11,5 @@ pub mod Forms
 pub mod Laws
 pub mod Uses
 pub mod TypeOf
+pub mod Standing
+pub mod Rebuilding

@@ -7,16 +7,27 @@ use Rattle.frp_base.specs.declared.ty.Ty.TheOpen as o
 use Rattle.frp_base.specs.declared.ty.Ty.TheFolds.{fold-Ty}
 use Rattle.frp_expr.specs.Operators.{most}
 
--- plain are Int, Bool, Text and pairs of plain types
-abbrev pub is_plain_step : Ty-F Bool → Bool
-is_plain_step o.Int = true
-is_plain_step o.Bool = true
-is_plain_step o.Text = true
-is_plain_step (o.Pair a b) = a && b
-is_plain_step _ = false
+-- Whether a type is one of the language, whose lists have items of plain types; and whether it is plain: Int, Bool, Text, and
+-- pairs and options of plain types.
+abbrev pub kind_step : Ty-F (Bool × Bool) → Bool × Bool
+kind_step o.Int = (true, true)
+kind_step o.Bool = (true, true)
+kind_step o.Text = (true, true)
+kind_step (o.Pair a b) = (a.0 && b.0, a.1 && b.1)
+kind_step (o.List a) = (a.1, false)
+kind_step (o.Stream a) = (a.0, false)
+kind_step (o.Cell a) = (a.0, false)
+kind_step (o.Fun a b) = (a.0 && b.0, false)
+kind_step (o.Option a) = (a.0, a.1)
+
+abbrev pub type_kind : Ty → Bool × Bool
+type_kind = fold-Ty (Bool × Bool) kind_step
+
+abbrev pub is_type : Ty → Bool
+is_type x = (type_kind x).0
 
 abbrev pub is_plain : Ty → Bool
-is_plain = fold-Ty Bool is_plain_step
+is_plain x = (type_kind x).1
 
 abbrev pub is_list_in : Ty-F Ty → Bool
 is_list_in (o.List a) = true

@@ -36,7 +36,8 @@ is_closed_of ps a b (Some s) = each_of ps s.kept && ty_eq s.arg a && ty_eq s.res
 -- `node_type` gives the type of each node that there is, and `sigs` are the declared functions
 module _ (node_type : Name → Option Ty) (sigs : List Sig) where
   -- A value whose parts are tested so, and a type: numbers, truths and texts of printable bytes are of their types, an
-  -- empty list is of every list type, a reference names a node of the type, and a function value is of its function's type.
+  -- empty list is of every list type, a reference names a node of the type, a function value is of its function's type, and
+  -- the absent value is of every option type.
   abbrev pub is_of_step : Val-F (Ty → Bool) → Ty → Ty-F Ty → Bool
   is_of_step (v.Int z) x t.Int = fits z
   is_of_step (v.Bool b) x t.Bool = true
@@ -46,6 +47,8 @@ module _ (node_type : Name → Option Ty) (sigs : List Sig) where
   is_of_step (v.Stream n) x (t.Stream a) = is_node_of x (node_type n)
   is_of_step (v.Cell n) x (t.Cell a) = is_node_of x (node_type n)
   is_of_step (v.Fun f ps) x (t.Fun a b) = is_closed_of ps a b (slice_get sigs f)
+  is_of_step v.Absent x (t.Option a) = true
+  is_of_step (v.Present p) x (t.Option a) = p a
   is_of_step _ x _ = false
 
   -- whether a value is of a type

@@ -25,7 +25,7 @@ pub use faults::{given, right, stop};
 pub use lawful::{is_lawful, is_text};
 pub use laws::{eval_is_typed, typing_agrees, values_stay};
 pub use names::place_of;
-pub use raw::{Raw, RawForm, RawTy, Spot, TyForm};
+pub use raw::{Raw, RawForm, RawTy, Spot, TyForm, copy_raws};
 pub use scope::{Scope, Typing};
 pub use types::item_type;
 pub use value::eval;

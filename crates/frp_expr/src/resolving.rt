@@ -1,12 +1,15 @@
 //! The expressions that written expressions stand for.
 
-ghost use Rattle.std.specs.Prelude.{◌≡◌, ◌<◌, ◌^◌, ◌++◌, [], ◌∷◌, map, length, IfOk, OnOk};
+ghost use Rattle.std.specs.Prelude.{◌≡◌, ◌<◌, ◌^◌, ◌++◌, [], ◌∷◌, map, length, IsTrue, IfOk, OnOk};
+ghost use Rattle.frp_expr.specs.declared.expr.Expr.TheVariants as x;
+ghost use Rattle.frp_expr.specs.Forms.{is_unary, is_binary, is_agreeing};
+ghost use Rattle.frp_expr.specs.Standing.{of_one, of_two, of_three};
 ghost use Rattle.frp_expr.specs.Scope.{number_of, names_of, fun_names};
 ghost use Rattle.frp_expr.specs.Raw.{ty_of, resolve, each_resolved};
 
 use crate::expr::Expr;
 use crate::names::{fun_number, number};
-use crate::raw::{Raw, RawForm, Spot};
+use crate::raw::{Raw, RawForm, RawTy, Spot};
 use crate::scope::Scope;
 use crate::written::stripped;
 use frp_base::{Boxed, Memory, Seq, Text};
@@ -27,117 +30,196 @@ pub fn resolve(
     match &raw.form {
         RawForm::Int(n) => Ok(Expr::Int(*n)),
         RawForm::Bool(b) => Ok(Expr::Bool(*b)),
-        RawForm::Text(text) => Ok(Expr::Text(text.copy()?)),
+        RawForm::Text(text) => literal(text),
         RawForm::Name(name) => {
             Ok(Expr::Var(number(scope.names.as_slice(), bound.as_slice(), name)))
         }
-        RawForm::Neg(a) => {
-            let a = part(alloc, a.get(), scope, bound)?;
-            Ok(Expr::Neg(a))
-        }
-        RawForm::Not(a) => {
-            let a = part(alloc, a.get(), scope, bound)?;
-            Ok(Expr::Not(a))
-        }
-        RawForm::First(a) => {
-            let a = part(alloc, a.get(), scope, bound)?;
-            Ok(Expr::First(a))
-        }
-        RawForm::Second(a) => {
-            let a = part(alloc, a.get(), scope, bound)?;
-            Ok(Expr::Second(a))
-        }
-        RawForm::Len(a) => {
-            let a = part(alloc, a.get(), scope, bound)?;
-            Ok(Expr::Len(a))
-        }
-        RawForm::Show(a) => {
-            let a = part(alloc, a.get(), scope, bound)?;
-            Ok(Expr::Show(a))
-        }
+        RawForm::Neg(_)
+        | RawForm::Not(_)
+        | RawForm::First(_)
+        | RawForm::Second(_)
+        | RawForm::Len(_)
+        | RawForm::Show(_) => unary(alloc, raw, scope, bound),
         RawForm::Let(name, a, b) => {
             let a = part(alloc, a.get(), scope, bound)?;
             let b = within(alloc, b.get(), name, scope, bound)?;
             Ok(Expr::Let(a, b))
         }
-        RawForm::Add(a, b) => {
+        RawForm::Add(_, _)
+        | RawForm::Sub(_, _)
+        | RawForm::Mul(_, _)
+        | RawForm::Div(_, _)
+        | RawForm::Rem(_, _)
+        | RawForm::Lt(_, _)
+        | RawForm::And(_, _)
+        | RawForm::Or(_, _)
+        | RawForm::Cat(_, _) => binary(alloc, raw, scope, bound),
+        RawForm::Eq(_, _)
+        | RawForm::Pair(_, _)
+        | RawForm::Append(_, _)
+        | RawForm::If(_, _, _)
+        | RawForm::At(_, _, _) => agreeing(alloc, raw, scope, bound),
+        RawForm::List(items) => list(alloc, items.as_slice(), scope, bound),
+        RawForm::Nil(ty) => nil(alloc, ty),
+        RawForm::Close(name, kept) => close(alloc, name, kept.as_slice(), scope, bound),
+    }
+}
+
+/// A literal text.
+fn literal(text: &Text) -> Result<Expr, Memory>
+    ensures { IfOk result (λ e. e ≡ x.Text text.now) }
+{
+    Ok(Expr::Text(text.copy()?))
+}
+
+/// An empty list.
+fn nil(alloc: Global, ty: &RawTy) -> Result<Expr, Memory>
+    ensures { IfOk result (λ e. e ≡ x.Nil (ty_of ty.now)) }
+{
+    Ok(Expr::Nil(stripped(alloc, ty)?))
+}
+
+/// What a list stands for.
+#[cycle(resolve)]
+fn list(alloc: Global, items: &[Raw], scope: &Scope, bound: &mut Seq<Text>) -> Result<Expr, Memory>
+    requires { length scope.now.funs < 2 ^ 32 }
+    ensures expr { IfOk result (λ e. e ≡ x.List (each_resolved (map (resolve (fun_names scope.now.funs)) items.now) (names_of scope.now.names ++ bound.old))) }
+    ensures bound { OnOk result (bound.new ≡ bound.old) }
+{
+    let items = each(alloc, items, scope, bound)?;
+    Ok(Expr::List(items))
+}
+
+/// What a function value stands for.
+#[cycle(resolve)]
+fn close(
+    alloc: Global,
+    name: &Spot,
+    kept: &[Raw],
+    scope: &Scope,
+    bound: &mut Seq<Text>,
+) -> Result<Expr, Memory>
+    requires { length scope.now.funs < 2 ^ 32 }
+    ensures expr { IfOk result (λ e. e ≡ x.Close (number_of name.now.text (fun_names scope.now.funs)) (each_resolved (map (resolve (fun_names scope.now.funs)) kept.now) (names_of scope.now.names ++ bound.old))) }
+    ensures bound { OnOk result (bound.new ≡ bound.old) }
+{
+    let kept = each(alloc, kept, scope, bound)?;
+    Ok(Expr::Close(fun_number(scope.funs.as_slice(), &name.text), kept))
+}
+
+/// What an operator with one part stands for.
+#[cycle(resolve)]
+fn unary(alloc: Global, raw: &Raw, scope: &Scope, bound: &mut Seq<Text>) -> Result<Expr, Memory>
+    requires funs { length scope.now.funs < 2 ^ 32 }
+    requires form { IsTrue (is_unary raw.now) }
+    ensures expr { IfOk result (λ e. e ≡ resolve (fun_names scope.now.funs) raw.now (names_of scope.now.names ++ bound.old)) }
+    ensures bound { OnOk result (bound.new ≡ bound.old) }
+{
+    match &raw.form {
+        RawForm::Neg(a)
+        | RawForm::Not(a)
+        | RawForm::First(a)
+        | RawForm::Second(a)
+        | RawForm::Len(a)
+        | RawForm::Show(a) => {
+            let a = part(alloc, a.get(), scope, bound)?;
+            Ok(of_one(raw, a))
+        }
+        _ => unreachable!(),
+    }
+}
+
+/// What an operator with two parts of one given type stands for.
+#[cycle(resolve)]
+fn binary(alloc: Global, raw: &Raw, scope: &Scope, bound: &mut Seq<Text>) -> Result<Expr, Memory>
+    requires funs { length scope.now.funs < 2 ^ 32 }
+    requires form { IsTrue (is_binary raw.now) }
+    ensures expr { IfOk result (λ e. e ≡ resolve (fun_names scope.now.funs) raw.now (names_of scope.now.names ++ bound.old)) }
+    ensures bound { OnOk result (bound.new ≡ bound.old) }
+{
+    match &raw.form {
+        RawForm::Add(a, b)
+        | RawForm::Sub(a, b)
+        | RawForm::Mul(a, b)
+        | RawForm::Div(a, b)
+        | RawForm::Rem(a, b)
+        | RawForm::Lt(a, b)
+        | RawForm::And(a, b)
+        | RawForm::Or(a, b)
+        | RawForm::Cat(a, b) => {
             let a = part(alloc, a.get(), scope, bound)?;
             let b = part(alloc, b.get(), scope, bound)?;
-            Ok(Expr::Add(a, b))
+            Ok(of_two(raw, a, b))
         }
-        RawForm::Sub(a, b) => {
+        _ => unreachable!(),
+    }
+}
+
+/// What an operator with parts whose types follow from one another stands for.
+#[cycle(resolve)]
+fn agreeing(alloc: Global, raw: &Raw, scope: &Scope, bound: &mut Seq<Text>) -> Result<Expr, Memory>
+    requires funs { length scope.now.funs < 2 ^ 32 }
+    requires form { IsTrue (is_agreeing raw.now) }
+    ensures expr { IfOk result (λ e. e ≡ resolve (fun_names scope.now.funs) raw.now (names_of scope.now.names ++ bound.old)) }
+    ensures bound { OnOk result (bound.new ≡ bound.old) }
+{
+    match &raw.form {
+        RawForm::Eq(a, b) | RawForm::Pair(a, b) | RawForm::Append(a, b) => {
             let a = part(alloc, a.get(), scope, bound)?;
             let b = part(alloc, b.get(), scope, bound)?;
-            Ok(Expr::Sub(a, b))
+            Ok(of_two(raw, a, b))
         }
-        RawForm::Mul(a, b) => {
-            let a = part(alloc, a.get(), scope, bound)?;
-            let b = part(alloc, b.get(), scope, bound)?;
-            Ok(Expr::Mul(a, b))
-        }
-        RawForm::Div(a, b) => {
-            let a = part(alloc, a.get(), scope, bound)?;
-            let b = part(alloc, b.get(), scope, bound)?;
-            Ok(Expr::Div(a, b))
-        }
-        RawForm::Rem(a, b) => {
-            let a = part(alloc, a.get(), scope, bound)?;
-            let b = part(alloc, b.get(), scope, bound)?;
-            Ok(Expr::Rem(a, b))
-        }
-        RawForm::Lt(a, b) => {
-            let a = part(alloc, a.get(), scope, bound)?;
-            let b = part(alloc, b.get(), scope, bound)?;
-            Ok(Expr::Lt(a, b))
-        }
-        RawForm::Eq(a, b) => {
-            let a = part(alloc, a.get(), scope, bound)?;
-            let b = part(alloc, b.get(), scope, bound)?;
-            Ok(Expr::Eq(a, b))
-        }
-        RawForm::And(a, b) => {
-            let a = part(alloc, a.get(), scope, bound)?;
-            let b = part(alloc, b.get(), scope, bound)?;
-            Ok(Expr::And(a, b))
-        }
-        RawForm::Or(a, b) => {
-            let a = part(alloc, a.get(), scope, bound)?;
-            let b = part(alloc, b.get(), scope, bound)?;
-            Ok(Expr::Or(a, b))
-        }
-        RawForm::Pair(a, b) => {
-            let a = part(alloc, a.get(), scope, bound)?;
-            let b = part(alloc, b.get(), scope, bound)?;
-            Ok(Expr::Pair(a, b))
-        }
-        RawForm::Append(a, b) => {
-            let a = part(alloc, a.get(), scope, bound)?;
-            let b = part(alloc, b.get(), scope, bound)?;
-            Ok(Expr::Append(a, b))
-        }
-        RawForm::Cat(a, b) => {
-            let a = part(alloc, a.get(), scope, bound)?;
-            let b = part(alloc, b.get(), scope, bound)?;
-            Ok(Expr::Cat(a, b))
-        }
-        RawForm::If(a, b, c) => {
+        RawForm::If(a, b, c) | RawForm::At(a, b, c) => {
             let a = part(alloc, a.get(), scope, bound)?;
             let b = part(alloc, b.get(), scope, bound)?;
             let c = part(alloc, c.get(), scope, bound)?;
-            Ok(Expr::If(a, b, c))
+            Ok(of_three(raw, a, b, c))
         }
-        RawForm::At(a, b, c) => {
-            let a = part(alloc, a.get(), scope, bound)?;
-            let b = part(alloc, b.get(), scope, bound)?;
-            let c = part(alloc, c.get(), scope, bound)?;
-            Ok(Expr::At(a, b, c))
-        }
-        RawForm::List(items) => Ok(Expr::List(each(alloc, items.as_slice(), scope, bound)?)),
-        RawForm::Nil(ty) => Ok(Expr::Nil(stripped(alloc, ty)?)),
-        RawForm::Close(name, kept) => {
-            let kept = each(alloc, kept.as_slice(), scope, bound)?;
-            Ok(Expr::Close(fun_number(scope.funs.as_slice(), &name.text), kept))
-        }
+        _ => unreachable!(),
+    }
+}
+
+/// The expression of a written operator on this part.
+fn of_one(raw: &Raw, a: Boxed<Expr>) -> Expr
+    ensures { result ≡ of_one raw.now a }
+{
+    match &raw.form {
+        RawForm::Neg(_) => Expr::Neg(a),
+        RawForm::Not(_) => Expr::Not(a),
+        RawForm::First(_) => Expr::First(a),
+        RawForm::Second(_) => Expr::Second(a),
+        RawForm::Len(_) => Expr::Len(a),
+        _ => Expr::Show(a),
+    }
+}
+
+/// The expression of a written operator on these parts.
+fn of_two(raw: &Raw, a: Boxed<Expr>, b: Boxed<Expr>) -> Expr
+    ensures { result ≡ of_two raw.now a b }
+{
+    match &raw.form {
+        RawForm::Add(_, _) => Expr::Add(a, b),
+        RawForm::Sub(_, _) => Expr::Sub(a, b),
+        RawForm::Mul(_, _) => Expr::Mul(a, b),
+        RawForm::Div(_, _) => Expr::Div(a, b),
+        RawForm::Rem(_, _) => Expr::Rem(a, b),
+        RawForm::Lt(_, _) => Expr::Lt(a, b),
+        RawForm::And(_, _) => Expr::And(a, b),
+        RawForm::Or(_, _) => Expr::Or(a, b),
+        RawForm::Cat(_, _) => Expr::Cat(a, b),
+        RawForm::Eq(_, _) => Expr::Eq(a, b),
+        RawForm::Pair(_, _) => Expr::Pair(a, b),
+        _ => Expr::Append(a, b),
+    }
+}
+
+/// The expression of a written operator on these parts.
+fn of_three(raw: &Raw, a: Boxed<Expr>, b: Boxed<Expr>, c: Boxed<Expr>) -> Expr
+    ensures { result ≡ of_three raw.now a b c }
+{
+    match &raw.form {
+        RawForm::If(_, _, _) => Expr::If(a, b, c),
+        _ => Expr::At(a, b, c),
     }
 }
 

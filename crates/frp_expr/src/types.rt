@@ -5,14 +5,15 @@ ghost use Rattle.frp_expr.specs.Types.{is_plain, is_list, is_comparable, first_t
 
 use frp_base::Ty;
 
-/// Whether a type is plain: Int, Bool, Text or a pair of plain types.
+/// Whether a type is plain: Int, Bool, Text, a pair of plain types or an option of one.
 pub fn is_plain(ty: &Ty) -> bool
     ensures { result ≡ is_plain ty.now }
 {
     match ty {
         Ty::Int | Ty::Bool | Ty::Text => true,
         Ty::Pair(a, b) => is_plain(a.get()) && is_plain(b.get()),
-        _ => false,
+        Ty::Option(a) => is_plain(a.get()),
+        Ty::List(_) | Ty::Stream(_) | Ty::Cell(_) | Ty::Fun(_, _) => false,
     }
 }
 

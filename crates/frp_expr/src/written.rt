@@ -21,28 +21,46 @@ pub fn written(alloc: Global, raw: &RawTy) -> Result<Ty, ExprStop>
         TyForm::Bool => Ok(Ty::Bool),
         TyForm::Text => Ok(Ty::Text),
         TyForm::Pair(a, b) => {
-            let a = written(alloc, a.get())?;
-            let b = written(alloc, b.get())?;
-            Ok(Ty::Pair(Boxed::new(alloc, a)?, Boxed::new(alloc, b)?))
+            let a = part(alloc, a.get())?;
+            let b = part(alloc, b.get())?;
+            Ok(Ty::Pair(a, b))
         }
         TyForm::List(a) => {
-            let a = item_type(alloc, a.get())?;
-            Ok(Ty::List(Boxed::new(alloc, a)?))
+            let a = item_part(alloc, a.get())?;
+            Ok(Ty::List(a))
         }
         TyForm::Stream(a) => {
-            let a = written(alloc, a.get())?;
-            Ok(Ty::Stream(Boxed::new(alloc, a)?))
+            let a = part(alloc, a.get())?;
+            Ok(Ty::Stream(a))
         }
         TyForm::Cell(a) => {
-            let a = written(alloc, a.get())?;
-            Ok(Ty::Cell(Boxed::new(alloc, a)?))
+            let a = part(alloc, a.get())?;
+            Ok(Ty::Cell(a))
         }
         TyForm::Fun(a, b) => {
-            let a = written(alloc, a.get())?;
-            let b = written(alloc, b.get())?;
-            Ok(Ty::Fun(Boxed::new(alloc, a)?, Boxed::new(alloc, b)?))
+            let a = part(alloc, a.get())?;
+            let b = part(alloc, b.get())?;
+            Ok(Ty::Fun(a, b))
         }
     }
+}
+
+/// The type that is written, in a box.
+#[cycle(written)]
+fn part(alloc: Global, raw: &RawTy) -> Result<Boxed<Ty>, ExprStop>
+    ensures { Gives (λ x. x) result (written raw.now) }
+{
+    let ty = written(alloc, raw)?;
+    Ok(Boxed::new(alloc, ty)?)
+}
+
+/// The type that is written for the items of a list, in a box.
+#[cycle(written)]
+fn item_part(alloc: Global, raw: &RawTy) -> Result<Boxed<Ty>, ExprStop>
+    ensures { Gives (λ x. x) result (item_by (ty_part raw.now)) }
+{
+    let ty = item_type(alloc, raw)?;
+    Ok(Boxed::new(alloc, ty)?)
 }
 
 /// The type that is written for the items of a list, or its first fault.

@@ -3,8 +3,8 @@
 use crate::case::Case;
 use frp_base::{Memory, Text};
 use frp_expr::TypeKind;
+use frp_file::File;
 use frp_form::{FormKind, FormStop, read};
-use frp_graph::File;
 use frp_lex::{LexStop, Token, lex};
 use frp_type::{CheckStop, Label, check, is_core};
 use frp_write::write;

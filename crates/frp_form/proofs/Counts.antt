@@ -2,9 +2,9 @@
 use Rattle.std.proofs.Common.{◌≡◌, ◌*◌, ◌≤◌, Bool, true, false, List, ◌++◌, length, refl, length-append, arith}
 use Rattle.std.specs.List.{AllByRecursion}
 use Rattle.frp_lex.specs.declared.token.Token.{Token}
-use Rattle.frp_graph.specs.declared.file.Listen.{Listen}
-use Rattle.frp_graph.specs.declared.file.Sender.{Sender}
-use Rattle.frp_graph.specs.declared.file.File.{File}
+use Rattle.frp_file.specs.declared.file.Listen.{Listen}
+use Rattle.frp_file.specs.declared.file.Sender.{Sender}
+use Rattle.frp_file.specs.declared.file.File.{File}
 use Rattle.frp_form.specs.declared.reading.Reading.{Reading}
 use Rattle.frp_form.specs.Grammar.{AreAll, none, more, IsListen, listen_is, IsSender, sender_is, most_senders, IsFile, file_is}
 use Rattle.frp_form.specs.LawfulReading.{ListensAreFew, SendersAreFew, OneSenderIsRead, SendsAreFew}

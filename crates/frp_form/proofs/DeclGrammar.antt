@@ -2,12 +2,12 @@
 use Rattle.std.proofs.Common.{◌≡◌, ℕ, Bool, true, false, List, [], ◌∷◌, ◌++◌, Some, None, Ok, refl, ap, ◌∙◌}
 use Rattle.std.specs.Prelude.{codes}
 use Rattle.frp_lex.specs.declared.token.Token.{Token}
-use Rattle.frp_graph.specs.declared.file.Item.{Item}
-use Rattle.frp_graph.specs.declared.file.Give.{Give}
-use Rattle.frp_graph.specs.declared.file.Template.{Template}
-use Rattle.frp_graph.specs.declared.file.Function.{Function}
-use Rattle.frp_graph.specs.declared.file.Decl.{Decl}
-use Rattle.frp_graph.specs.declared.file.Decl.TheVariants as d
+use Rattle.frp_file.specs.declared.file.Item.{Item}
+use Rattle.frp_file.specs.declared.file.Give.{Give}
+use Rattle.frp_file.specs.declared.file.Template.{Template}
+use Rattle.frp_file.specs.declared.file.Function.{Function}
+use Rattle.frp_file.specs.declared.file.Decl.{Decl}
+use Rattle.frp_file.specs.declared.file.Decl.TheVariants as d
 use Rattle.frp_form.specs.declared.item_heads.ItemHead.TheVariants as i
 use Rattle.frp_form.specs.declared.item_heads.DeclHead.{DeclHead}
 use Rattle.frp_form.specs.declared.item_heads.DeclHead.TheVariants as h

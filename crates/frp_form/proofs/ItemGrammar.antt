@@ -5,9 +5,9 @@ use Rattle.frp_lex.specs.declared.token.Token.{Token}
 use Rattle.frp_expr.specs.declared.raw.Spot.{Spot}
 use Rattle.frp_expr.specs.declared.raw.RawTy.{RawTy}
 use Rattle.frp_expr.specs.declared.raw.Raw.{Raw}
-use Rattle.frp_graph.specs.declared.file.RawShape.{RawShape}
-use Rattle.frp_graph.specs.declared.file.Item.{Item}
-use Rattle.frp_graph.specs.declared.file.ItemForm.TheVariants as i
+use Rattle.frp_file.specs.declared.file.RawShape.{RawShape}
+use Rattle.frp_file.specs.declared.file.Item.{Item}
+use Rattle.frp_file.specs.declared.file.ItemForm.TheVariants as i
 use Rattle.frp_form.specs.declared.item_heads.ItemHead.{ItemHead}
 use Rattle.frp_form.specs.declared.item_heads.ItemHead.TheVariants as h
 use Rattle.frp_form.specs.Tokens.{left, right, spot, head}

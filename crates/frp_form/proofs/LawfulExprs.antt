@@ -13,7 +13,7 @@ use Rattle.frp_expr.specs.declared.raw.RawForm.TheVariants as f
 use Rattle.frp_expr.specs.Operators.{most}
 use Rattle.frp_expr.specs.Types.{fits, is_text}
 use Rattle.frp_expr.specs.Raw.{is_lawful_step, is_lawful}
-use Rattle.frp_expr.proofs.Tests.{both_true, true_both}
+use Rattle.frp_base.proofs.Booleans.{both_true, true_both}
 use Rattle.frp_lex.specs.declared.token.Kind.TheVariants as k
 use Rattle.frp_lex.specs.declared.token.Token.{Token}
 use Rattle.frp_lex.specs.Atoms.{fits as fits_token}

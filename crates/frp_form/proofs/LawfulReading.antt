@@ -6,10 +6,10 @@ use Rattle.frp_expr.specs.declared.raw.RawTy.{RawTy}
 use Rattle.frp_expr.specs.declared.raw.Raw.{Raw}
 use Rattle.frp_expr.specs.declared.raw.Spot.{Spot}
 use Rattle.frp_expr.specs.Raw.{is_lawful}
-use Rattle.frp_expr.proofs.Tests.{true_both}
+use Rattle.frp_base.proofs.Booleans.{true_both}
 use Rattle.frp_lex.specs.declared.token.Token.{Token}
-use Rattle.frp_graph.specs.declared.file.Item.{Item}
-use Rattle.frp_graph.specs.LawfulParts.{is_lawful_shape, is_lawful_item, is_lawful_decl, is_lawful_sender, has_lawful_parts}
+use Rattle.frp_file.specs.declared.file.Item.{Item}
+use Rattle.frp_file.specs.LawfulParts.{is_lawful_shape, is_lawful_item, is_lawful_decl, is_lawful_sender, has_lawful_parts}
 use Rattle.frp_form.specs.declared.shape_heads.TyShape.{TyShape}
 use Rattle.frp_form.specs.declared.shape_heads.TyShape.TheVariants as on_type
 use Rattle.frp_form.specs.declared.shape_heads.UnaryShape.{UnaryShape}

@@ -3,8 +3,8 @@ use Rattle.std.proofs.Common.{◌≡◌, ℕ, List, [], ◌∷◌, ◌++◌, Non
 use Rattle.std.specs.Prelude.{codes}
 use Rattle.frp_expr.specs.declared.raw.Raw.{Raw}
 use Rattle.frp_lex.specs.declared.token.Token.{Token}
-use Rattle.frp_graph.specs.declared.file.Param.{Param}
-use Rattle.frp_graph.specs.declared.file.RawShape.{RawShape}
+use Rattle.frp_file.specs.declared.file.Param.{Param}
+use Rattle.frp_file.specs.declared.file.RawShape.{RawShape}
 use Rattle.frp_form.specs.declared.shape_heads.TyShape.{TyShape}
 use Rattle.frp_form.specs.declared.shape_heads.UnaryShape.{UnaryShape}
 use Rattle.frp_form.specs.declared.shape_heads.BinaryShape.{BinaryShape}

@@ -1,11 +1,11 @@
 -- The file of a list of tokens, or its first fault.
 use Rattle.std.specs.Prelude.{ℕ, if◌then◌else◌, List, [], ◌∷◌, codes, Option, Some, None, Ok}
 use Rattle.frp_lex.specs.declared.token.Token.{Token}
-use Rattle.frp_graph.specs.declared.file.File.{File}
-use Rattle.frp_graph.specs.declared.file.Graph.{Graph}
-use Rattle.frp_graph.specs.declared.file.Listen.{Listen}
-use Rattle.frp_graph.specs.declared.file.Sender.{Sender}
-use Rattle.frp_graph.specs.declared.file.RawSend.{RawSend}
+use Rattle.frp_file.specs.declared.file.File.{File}
+use Rattle.frp_file.specs.declared.file.Graph.{Graph}
+use Rattle.frp_file.specs.declared.file.Listen.{Listen}
+use Rattle.frp_file.specs.declared.file.Sender.{Sender}
+use Rattle.frp_file.specs.declared.file.RawSend.{RawSend}
 use Rattle.frp_form.specs.declared.fault.FormKind.TheVariants as kind
 use Rattle.frp_form.specs.declared.over.Over.TheVariants as o
 use Rattle.frp_form.specs.declared.reading.Reading.{Reading}

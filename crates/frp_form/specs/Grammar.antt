@@ -7,21 +7,21 @@ use Rattle.frp_expr.specs.declared.raw.Raw.{Raw}
 use Rattle.frp_expr.specs.declared.raw.RawForm.TheVariants as f
 use Rattle.frp_lex.specs.declared.token.Kind.TheVariants as k
 use Rattle.frp_lex.specs.declared.token.Token.{Token}
-use Rattle.frp_graph.specs.declared.file.Param.{Param}
-use Rattle.frp_graph.specs.declared.file.RawShape.{RawShape}
-use Rattle.frp_graph.specs.declared.file.ShapeForm.TheVariants as s
-use Rattle.frp_graph.specs.declared.file.Item.{Item}
-use Rattle.frp_graph.specs.declared.file.ItemForm.TheVariants as i
-use Rattle.frp_graph.specs.declared.file.Give.{Give}
-use Rattle.frp_graph.specs.declared.file.Template.{Template}
-use Rattle.frp_graph.specs.declared.file.Function.{Function}
-use Rattle.frp_graph.specs.declared.file.Decl.{Decl}
-use Rattle.frp_graph.specs.declared.file.Decl.TheVariants as d
-use Rattle.frp_graph.specs.declared.file.Graph.{Graph}
-use Rattle.frp_graph.specs.declared.file.Listen.{Listen}
-use Rattle.frp_graph.specs.declared.file.RawSend.{RawSend}
-use Rattle.frp_graph.specs.declared.file.Sender.{Sender}
-use Rattle.frp_graph.specs.declared.file.File.{File}
+use Rattle.frp_file.specs.declared.file.Param.{Param}
+use Rattle.frp_file.specs.declared.file.RawShape.{RawShape}
+use Rattle.frp_file.specs.declared.file.ShapeForm.TheVariants as s
+use Rattle.frp_file.specs.declared.file.Item.{Item}
+use Rattle.frp_file.specs.declared.file.ItemForm.TheVariants as i
+use Rattle.frp_file.specs.declared.file.Give.{Give}
+use Rattle.frp_file.specs.declared.file.Template.{Template}
+use Rattle.frp_file.specs.declared.file.Function.{Function}
+use Rattle.frp_file.specs.declared.file.Decl.{Decl}
+use Rattle.frp_file.specs.declared.file.Decl.TheVariants as d
+use Rattle.frp_file.specs.declared.file.Graph.{Graph}
+use Rattle.frp_file.specs.declared.file.Listen.{Listen}
+use Rattle.frp_file.specs.declared.file.RawSend.{RawSend}
+use Rattle.frp_file.specs.declared.file.Sender.{Sender}
+use Rattle.frp_file.specs.declared.file.File.{File}
 use Rattle.frp_form.specs.declared.ty_word.AtomTy.{AtomTy}
 use Rattle.frp_form.specs.declared.ty_word.UnaryTy.{UnaryTy}
 use Rattle.frp_form.specs.declared.ty_word.BinaryTy.{BinaryTy}

@@ -1,9 +1,9 @@
 -- Items and declarations.
 use Rattle.std.specs.Prelude.{ℕ, if◌then◌else◌, List, codes, Option, Some, None, Ok}
 use Rattle.std.specs.Str.{bytes_eq}
-use Rattle.frp_graph.specs.declared.file.Item.{Item}
-use Rattle.frp_graph.specs.declared.file.ItemForm.{ItemForm}
-use Rattle.frp_graph.specs.declared.file.ItemForm.TheVariants as i
+use Rattle.frp_file.specs.declared.file.Item.{Item}
+use Rattle.frp_file.specs.declared.file.ItemForm.{ItemForm}
+use Rattle.frp_file.specs.declared.file.ItemForm.TheVariants as i
 use Rattle.frp_form.specs.declared.item_heads.ItemHead.{ItemHead}
 use Rattle.frp_form.specs.declared.item_heads.ItemHead.TheVariants as h
 use Rattle.frp_form.specs.Gives.{Parser, ◌>>=◌}

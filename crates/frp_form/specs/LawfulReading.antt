@@ -5,8 +5,8 @@ use Rattle.std.specs.List.{AllByRecursion}
 use Rattle.frp_lex.specs.declared.token.Token.{Token}
 use Rattle.frp_lex.specs.Spelling.{kinds, are_lawful}
 use Rattle.frp_lex.specs.Tokens.{tokens}
-use Rattle.frp_graph.specs.declared.file.File.{File}
-use Rattle.frp_graph.specs.LawfulParts.{has_lawful_parts}
+use Rattle.frp_file.specs.declared.file.File.{File}
+use Rattle.frp_file.specs.LawfulParts.{has_lawful_parts}
 use Rattle.frp_form.specs.declared.reading.Reading.{Reading}
 use Rattle.frp_form.specs.File.{file_of}
 

@@ -4,8 +4,8 @@ use Rattle.std.specs.Str.{bytes_eq}
 use Rattle.frp_expr.specs.declared.raw.Raw.{Raw}
 use Rattle.frp_expr.specs.declared.raw.RawTy.{RawTy}
 use Rattle.frp_expr.specs.declared.raw.Spot.{Spot}
-use Rattle.frp_graph.specs.declared.file.ShapeForm.{ShapeForm}
-use Rattle.frp_graph.specs.declared.file.ShapeForm.TheVariants as form
+use Rattle.frp_file.specs.declared.file.ShapeForm.{ShapeForm}
+use Rattle.frp_file.specs.declared.file.ShapeForm.TheVariants as form
 use Rattle.frp_form.specs.declared.shape_heads.TyShape.{TyShape}
 use Rattle.frp_form.specs.declared.shape_heads.TyShape.TheVariants as t
 use Rattle.frp_form.specs.declared.shape_heads.UnaryShape.{UnaryShape}

@@ -1,10 +1,10 @@
 -- Shapes.
 use Rattle.std.specs.Prelude.{ℕ, Ok}
 use Rattle.frp_expr.specs.declared.raw.Raw.{Raw}
-use Rattle.frp_graph.specs.declared.file.Param.{Param}
-use Rattle.frp_graph.specs.declared.file.RawShape.{RawShape}
-use Rattle.frp_graph.specs.declared.file.ShapeForm.{ShapeForm}
-use Rattle.frp_graph.specs.declared.file.ShapeForm.TheVariants as form
+use Rattle.frp_file.specs.declared.file.Param.{Param}
+use Rattle.frp_file.specs.declared.file.RawShape.{RawShape}
+use Rattle.frp_file.specs.declared.file.ShapeForm.{ShapeForm}
+use Rattle.frp_file.specs.declared.file.ShapeForm.TheVariants as form
 use Rattle.frp_form.specs.declared.shape_heads.TyShape.{TyShape}
 use Rattle.frp_form.specs.declared.shape_heads.UnaryShape.{UnaryShape}
 use Rattle.frp_form.specs.declared.shape_heads.BinaryShape.{BinaryShape}

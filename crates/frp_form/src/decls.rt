@@ -15,7 +15,7 @@ use crate::lists::{Rule, many};
 use crate::shapes::{boxed_param, param};
 use crate::tokens::{after_right, begins, left, opened, right, spot, unexpected};
 use frp_base::{Boxed, Seq};
-use frp_graph::{Decl, Function, Give, Item, Param, Template};
+use frp_file::{Decl, Function, Give, Item, Param, Template};
 use frp_lex::{Kind, Token};
 use std::alloc::Global;
 

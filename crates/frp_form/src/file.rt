@@ -13,7 +13,7 @@ use crate::over::Over;
 use crate::reading::Reading;
 use crate::tokens::{after_right, begins, opened, right, spot};
 use frp_base::Seq;
-use frp_graph::{Decl, File, Graph, Listen, RawSend, Sender};
+use frp_file::{Decl, File, Graph, Listen, RawSend, Sender};
 use frp_lex::Token;
 use std::alloc::Global;
 

@@ -12,7 +12,7 @@ use crate::item_heads::{ItemHead, body_head};
 use crate::shapes::shape;
 use crate::tokens::{left, right, spot, unexpected};
 use crate::types::whole_ty;
-use frp_graph::{Item, ItemForm};
+use frp_file::{Item, ItemForm};
 use frp_lex::{Kind, Token};
 use std::alloc::Global;
 

@@ -5,7 +5,7 @@ ghost use Rattle.frp_form.specs.ShapeHeads as spec;
 
 use frp_base::Boxed;
 use frp_expr::{Raw, RawTy, Spot};
-use frp_graph::ShapeForm;
+use frp_file::ShapeForm;
 
 /// The head of a shape that has a type alone.
 #[derive(Clone, Copy)]

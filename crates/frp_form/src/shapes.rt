@@ -16,7 +16,7 @@ use crate::tokens::{left, right, spot, two_names, unexpected};
 use crate::types::whole_ty;
 use frp_base::{Boxed, Memory};
 use frp_expr::Raw;
-use frp_graph::{Param, RawShape, ShapeForm};
+use frp_file::{Param, RawShape, ShapeForm};
 use frp_lex::{Kind, Token};
 use std::alloc::Global;
 

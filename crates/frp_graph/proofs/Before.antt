@@ -1,32 +1,27 @@
--- The moments before a place, of a legal trace.
+-- The moments before a place.
 use Rattle.std.proofs.Common.{◌≡◌, ℕ, ◌<◌, ◌≤◌, Bool, true, false, cond, List, [], ◌∷◌, ◌++◌, map, length, Option, Some, None, refl, sym, ap, ◌∙◌, subst, arith, append_assoc}
-use Rattle.std.specs.Prelude.{◌&&◌, ◌||◌, ◌==◌, nat_lt, not, is_some, filter, if◌then◌else◌}
+use Rattle.std.specs.Prelude.{◌||◌, ◌==◌, nat_lt, not, is_some, filter, if◌then◌else◌}
 use Rattle.std.specs.List.{AllByRecursion, list_any}
 use Rattle.std.specs.List.Sorted.{IsStrictlySortedBy}
 use Rattle.std.specs.Ordering.{is_lt, is_gt, ordering_then}
 use Rattle.std.specs.declared.cmp.Ordering.{Ordering}
 use Rattle.std.specs.declared.cmp.Ordering.TheVariants.{Less, Equal, Greater}
 use Rattle.std.proofs.lemmas.Bool.Decides.{nat_tests}
+use Rattle.std.proofs.lemmas.List.{append-nil}
+use Rattle.std.proofs.lemmas.List.Elements.{filter-append}
 use Rattle.frp_base.specs.declared.time.Time.{Time}
-use Rattle.frp_base.specs.declared.name.Name.{Name}
 use Rattle.frp_base.specs.Time.{time_eq, time_cmp, parent_and_number}
-use Rattle.frp_base.specs.Name.{name_eq}
 use Rattle.frp_base.proofs.OrderLemmas.{time_cmp-transitive, time_cmp-equal}
 use Rattle.frp_graph.specs.declared.trace.Node.{Node}
 use Rattle.frp_graph.specs.declared.trace.Moment.{Moment}
-use Rattle.frp_graph.specs.declared.prog.Prog.{Prog}
-use Rattle.frp_graph.specs.declared.shape.Shape.{Shape}
-use Rattle.frp_graph.specs.declared.shape.Shape.TheVariants.{Sink}
-use Rattle.frp_graph.specs.declared.history.Delivered.{Delivered}
-use Rattle.frp_graph.specs.Trace.{Sight, live, node_in, moment_at, moments_before, value_after, sight_of, occ}
-use Rattle.frp_graph.specs.Equations.{Sent, sent_in, row, MeetsEquation}
-use Rattle.frp_graph.specs.Moments.{AtEach, IsMoment, build, items_to_split, live_at, splits_at, is_child_due, is_due, is_of, moments_of}
-use Rattle.frp_graph.specs.Windows.{is_cell, delivered, item_between, between, window}
-use Rattle.frp_graph.proofs.Lists.{is_false, time_same}
-use Rattle.std.proofs.lemmas.List.Elements.{filter-append}
-use Rattle.frp_graph.proofs.Each.{append-nil}
+use Rattle.frp_graph.specs.declared.trace.Sent.{Sent}
+use Rattle.frp_graph.specs.Trace.{live, moment_at, moments_before}
+use Rattle.frp_graph.specs.Births.{build}
+use Rattle.frp_graph.specs.Moments.{AtEach, items_to_split, live_at, splits_at, is_child_due, is_due, is_of, transaction, moments_of}
+use Rattle.frp_graph.proofs.Order.{lt_less}
+use Rattle.frp_graph.proofs.Lists.{is_true, is_false, time_same}
 use Rattle.frp_graph.proofs.Times.{parent_begins}
-use Rattle.frp_graph.proofs.Transactions.{moment_of_some}
+use Rattle.frp_graph.proofs.Transactions.{moment_of_some, none_unsent}
 
 -- Times before a place.
 
@@ -44,11 +39,6 @@ before_first n k t = by (nat_lt n k) (n == k) where
   by false true = no_less t
   by false false = refl
 
-lt_less : (o : Ordering) → is_lt o ≡ true → o ≡ Less
-lt_less Less h = refl
-lt_less Equal h = absurd cc
-lt_less Greater h = absurd cc
-
 -- what is at or before a time that is before the place is so too
 pub before_earlier : (k : ℕ) (t u : Time) → not (is_gt (time_cmp t u)) ≡ true → before k u ≡ true → before k t ≡ true
 before_earlier k t u h b = by (time_cmp t u) refl h where
@@ -59,9 +49,17 @@ before_earlier k t u h b = by (time_cmp t u) refl h where
 
 -- Filters.
 
-filter_none : (q : Moment → Bool) (ms : List Moment) → AllByRecursion (λ m. q m ≡ false) ms → filter q ms ≡ []
+pub filter_none : (q : Moment → Bool) (ms : List Moment) → AllByRecursion (λ m. q m ≡ false) ms → filter q ms ≡ []
 filter_none q [] h = refl
 filter_none q (m ∷ ms) h = rw h.0 (filter_none q ms h.1)
+
+pub filter_each : (q : Moment → Bool) (ms : List Moment) → AllByRecursion (λ m. q m ≡ true) ms → filter q ms ≡ ms
+filter_each q [] h = refl
+filter_each q (m ∷ ms) h = rw h.0 (ap (λ ks. m ∷ ks) (filter_each q ms h.1))
+
+-- moments at which a test fails add nothing to those at which it holds
+pub filter_apart : (q : Moment → Bool) (ms ks : List Moment) → AllByRecursion (λ m. q m ≡ false) ks → filter q (ms ++ ks) ≡ filter q ms
+filter_apart q ms ks h = filter-append q ms ks ∙ ap (λ ls. filter q ms ++ ls) (filter_none q ks h) ∙ append-nil (filter q ms)
 
 pub filter_within : (p q : Moment → Bool) → ((m : Moment) → p m ≡ true → q m ≡ true) → (ms : List Moment) → filter p (filter q ms) ≡ filter p ms
 filter_within p q f [] = refl
@@ -106,36 +104,6 @@ pub live_append : (ms ks : List Moment) → live (ms ++ ks) ≡ live ms ++ live 
 live_append [] ks = refl
 live_append (m ∷ ms) ks = ap (λ xs. m.born ++ xs) (live_append ms ks) ∙ sym (append_assoc m.born (live ms) (live ks))
 
--- Sends at other times change nothing.
-
-pub sent_elsewhere : (sends more : List Sent) (t : Time) (n : Name) → AllByRecursion (λ s. time_eq t (s.place ∷ []) ≡ false) more → sent_in (sends ++ more) t n ≡ sent_in sends t n
-sent_elsewhere [] [] t n h = refl
-sent_elsewhere [] (s ∷ more) t n h = rw h.0 (sent_elsewhere [] more t n h.1)
-sent_elsewhere (s ∷ sends) more t n h = ap (λ o. if time_eq t (s.place ∷ []) && name_eq s.sink n then Some s.value else o) (sent_elsewhere sends more t n h)
-
-row_sends : (prog : Prog) (sends others : List Sent) (w : Sight) (x : Node) (s : Shape) → ((n : Name) → sent_in sends w.time n ≡ sent_in others w.time n) → row prog sends w x s ≡ row prog others w x s
-row_sends prog sends others w x Sink h = h x.name
-row_sends prog sends others w x _ h = refl
-
-equations_moved : (prog : Prog) (sends others : List Sent) (w : Sight) → ((n : Name) → sent_in sends w.time n ≡ sent_in others w.time n) → (xs : List Node)
-    → AllByRecursion (MeetsEquation prog sends w) xs → AllByRecursion (MeetsEquation prog others w) xs
-equations_moved prog sends others w h [] e = tt
-equations_moved prog sends others w h (x ∷ xs) e = (e.0 ∙ row_sends prog sends others w x x.shape h, equations_moved prog sends others w h xs e.1)
-
-moment_moved : (prog : Prog) (sends others : List Sent) (past : List Moment) (m : Moment) → ((n : Name) → sent_in sends m.time n ≡ sent_in others m.time n) → IsMoment prog sends past m → IsMoment prog others past m
-moment_moved prog sends others past m h i = record {
-  born = i.born;
-  equations = equations_moved prog sends others (sight_of past m) h (live (past ++ m ∷ [])) i.equations;
-  facts_of_live = i.facts_of_live;
-  born_rise = i.born_rise;
-  fired_rise = i.fired_rise;
-}
-
-pub moments_moved : (prog : Prog) (sends others : List Sent) (R : Moment → Type 0) → ((m : Moment) → R m → (n : Name) → sent_in sends m.time n ≡ sent_in others m.time n)
-    → (past ms : List Moment) → AllByRecursion R ms → AtEach (IsMoment prog sends) past ms → AtEach (IsMoment prog others) past ms
-moments_moved prog sends others R f past [] r h = tt
-moments_moved prog sends others R f past (m ∷ ms) r h = (moment_moved prog sends others past m (f m r.0) h.0, moments_moved prog sends others R f (past ++ m ∷ []) ms r.1 h.1)
-
 -- Due times.
 
 any_more : {A : Type 0} (p : A → Bool) (xs ys : List A) → AllByRecursion (λ y. p y ≡ false) ys → list_any p (xs ++ ys) ≡ list_any p xs
@@ -143,14 +111,14 @@ any_more p [] [] h = refl
 any_more p [] (y ∷ ys) h = rw h.0 (any_more p [] ys h.1)
 any_more p (x ∷ xs) ys h = ap (λ b. p x || b) (any_more p xs ys h)
 
-not_build : (k : ℕ) (t : Time) → 0 < k → before k t ≡ false → time_eq build t ≡ false
+pub not_build : (k : ℕ) (t : Time) → 0 < k → before k t ≡ false → time_eq build t ≡ false
 not_build k t l b = is_false (time_eq build t) (λ e.
     let s : before k build ≡ false = subst (λ u. before k u ≡ false) (sym (time_same build t e)) b in
     let f : before k build ≡ nat_lt 0 k = before_first 0 k [] in
     let g : nat_lt 0 k ≡ true = grind (arith, nat_tests) in
     cc)
 
-no_send : (k : ℕ) (t : Time) → before k t ≡ false → (sends : List Sent) → AllByRecursion (λ s. s.place < k) sends → list_any (λ s. time_eq (s.place ∷ []) t) sends ≡ false
+pub no_send : (k : ℕ) (t : Time) → before k t ≡ false → (sends : List Sent) → AllByRecursion (λ s. s.place < k) sends → list_any (λ s. time_eq (s.place ∷ []) t) sends ≡ false
 no_send k t b [] h = refl
 no_send k t b (s ∷ sends) h =
     let e : time_eq (s.place ∷ []) t ≡ false = is_false (time_eq (s.place ∷ []) t) (λ e.
@@ -223,7 +191,7 @@ module _ (k : ℕ) (trace : List Moment) where
         ap is_some m ∙ sym (three (time_eq build t) (list_any (λ s. time_eq (s.place ∷ []) t) sends) (is_child_due few (parent_and_number t)) false false false
         (not_build k t l b) (no_send k t b sends early) (no_child t (parent_and_number t) refl b))
 
--- Windows and counts.
+-- Places before a place, and transactions before it.
 
 pub before_place : (j k : ℕ) → j ≤ k → (t : Time) → before j t ≡ true → before k t ≡ true
 before_place j k l [] h = refl
@@ -233,42 +201,56 @@ before_place j k l (n ∷ t) h =
     let c : nat_lt n j ≡ true = sym a ∙ h in
     b ∙ (let d : nat_lt n k ≡ true = grind (arith, nat_tests) in d)
 
-of_before : (j k : ℕ) → j < k → (t : Time) → is_of j t ≡ true → before k t ≡ true
+pub of_before : (j k : ℕ) → j < k → (t : Time) → is_of j t ≡ true → before k t ≡ true
 of_before j k l [] h = absurd cc
 of_before j k l (n ∷ t) h = before_first n k t ∙ (let d : nat_lt n k ≡ true = grind (arith, nat_tests) in d)
+
+-- a moment of a transaction is before no earlier place, nor of an earlier transaction; one before a place isn't of its
+pub not_before : (j k : ℕ) → j ≤ k → (t : Time) → is_of k t ≡ true → before j t ≡ false
+not_before j k l [] h = absurd cc
+not_before j k l (n ∷ t) h = before_first n j t ∙ (let d : nat_lt n j ≡ false = grind (arith, nat_tests) in d)
+
+pub not_earlier : (j k : ℕ) → j < k → (t : Time) → is_of k t ≡ true → is_of j t ≡ false
+not_earlier j k l [] h = refl
+not_earlier j k l (n ∷ t) h = grind (arith, nat_tests)
+
+pub not_of : (k : ℕ) (t : Time) → before k t ≡ true → is_of k t ≡ false
+not_of k [] h = refl
+not_of k (n ∷ t) h = let l : nat_lt n k ≡ true = sym (before_first n k t) ∙ h in grind (arith, nat_tests)
 
 module _ (k : ℕ) (trace : List Moment) where
   pub before_few : (j : ℕ) → j ≤ k → moments_before (j ∷ []) (moments_before (k ∷ []) trace) ≡ moments_before (j ∷ []) trace
   before_few j l = filter_within (λ m. before j m.time) (λ m. before k m.time) (λ m. before_place j k l m.time) trace
 
+  pub transaction_few : (j : ℕ) → j < k → transaction j (moments_before (k ∷ []) trace) ≡ transaction j trace
+  transaction_few j l = filter_within (λ m. is_of j m.time) (λ m. before k m.time) (λ m. of_before j k l m.time) trace
+
   pub count_few : (j : ℕ) → j < k → moments_of j (moments_before (k ∷ []) trace) ≡ moments_of j trace
-  count_few j l = ap length (filter_within (λ m. is_of j m.time) (λ m. before k m.time) (λ m. of_before j k l m.time) trace)
+  count_few j l = ap length (transaction_few j l)
 
-  item_none : (from : Time) (j : ℕ) (n : Name) (m : Moment) → j ≤ k → before k m.time ≡ false → item_between from (j ∷ []) n m ≡ []
-  item_none from j n m l b = not_both (is_lt (time_cmp from m.time)) (before j m.time) (delivered m.time (occ m n))
-      (is_false (before j m.time) (λ e. let t = before_place j k l m.time e in cc))
-    where
-      not_both : (a b : Bool) (xs : List Delivered) → b ≡ false → (if a && b then xs else []) ≡ []
-      not_both true b xs e = rw e refl
-      not_both false b xs e = refl
+-- A trace whose sends are all before a place has its moments before it.
 
-  between_few : (from : Time) (j : ℕ) (n : Name) → j ≤ k → (ms : List Moment) → between from (j ∷ []) n (moments_before (k ∷ []) ms) ≡ between from (j ∷ []) n ms
-  between_few from j n l [] = refl
-  between_few from j n l (m ∷ ms) = by (before k m.time) refl (between_few from j n l ms) where
-    by : (b : Bool) → before k m.time ≡ b → between from (j ∷ []) n (moments_before (k ∷ []) ms) ≡ between from (j ∷ []) n ms
-        → between from (j ∷ []) n (cond b (m ∷ moments_before (k ∷ []) ms) (moments_before (k ∷ []) ms)) ≡ item_between from (j ∷ []) n m ++ between from (j ∷ []) n ms
-    by true b r = ap (λ xs. item_between from (j ∷ []) n m ++ xs) r
-    by false b r = r ∙ ap (λ xs. xs ++ between from (j ∷ []) n ms) (sym (item_none from j n m l b))
+module _ (k : ℕ) where
+  time_early : (t : Time) → ((n : ℕ) → k ≤ n → is_of n t ≡ false) → before k t ≡ true
+  time_early [] f = refl
+  time_early (n ∷ t) f = before_first n k t ∙ is_true (nat_lt n k) (λ e.
+      let l : k ≤ n = grind (arith, nat_tests) in
+      let g : n == n ≡ false = f n l in
+      let s : n == n ≡ true = grind (arith, nat_tests) in
+      cc)
 
-  pub window_few : (n : Name) (p j : ℕ) → p ≤ k → j ≤ k → window (moments_before (k ∷ []) trace) n p j ≡ window trace n p j
-  window_few n p j l h =
-      let first = λ (ms : List Moment). if is_cell (node_in (live ms) n) then delivered (p ∷ []) (value_after ms n) else [] in
-      λ i. first (before_few p l i) ++ between_few (p ∷ []) j n h trace i
+  none_first : (b : Bool) (m : Moment) (ms : List Moment) → length (cond b (m ∷ ms) ms) ≡ 0 → (b ≡ false) × (length ms ≡ 0)
+  none_first true m ms h = absurd (omega arith)
+  none_first false m ms h = (refl, h)
 
--- one more moment, at no time before the place, changes no window before it
-pub window_stays : (trace : List Moment) (m : Moment) (n : Name) (p k : ℕ) → p ≤ k → before k m.time ≡ false → window (trace ++ m ∷ []) n p k ≡ window trace n p k
-window_stays trace m n p k l b =
-    let none : moments_before (k ∷ []) (m ∷ []) ≡ [] = rw b refl in
-    let same : moments_before (k ∷ []) (trace ++ m ∷ []) ≡ moments_before (k ∷ []) trace
-    = filter-append (λ j. before k j.time) trace (m ∷ []) ∙ ap (λ ms. moments_before (k ∷ []) trace ++ ms) none ∙ append-nil (moments_before (k ∷ []) trace) in
-    sym (window_few k (trace ++ m ∷ []) n p k l (omega arith)) ∙ ap (λ ms. window ms n p k) same ∙ window_few k trace n p k l (omega arith)
+  all_early : (ms : List Moment) → ((n : ℕ) → k ≤ n → moments_of n ms ≡ 0) → AllByRecursion (λ m. before k m.time ≡ true) ms
+  all_early [] f = tt
+  all_early (m ∷ ms) f = let p = λ (n : ℕ) (l : k ≤ n). none_first (is_of n m.time) m (transaction n ms) (f n l) in (time_early m.time (λ n l. (p n l).0), all_early ms (λ n l. (p n l).1))
+
+  unsent : (n : ℕ) → k ≤ n → (sends : List Sent) → AllByRecursion (λ s. s.place < k) sends → list_any (λ s. s.place == n) sends ≡ false
+  unsent n l [] h = refl
+  unsent n l (s ∷ sends) h = let p : s.place < k = h.0 in let e : s.place == n ≡ false = grind (arith, nat_tests) in rw e (unsent n l sends h.1)
+
+  pub trace_early : (sends : List Sent) (trace : List Moment) → ((t : Time) → is_some (moment_at trace t) ≡ is_due sends trace t) → 0 < k → AllByRecursion (λ s. s.place < k) sends
+      → AllByRecursion (λ m. before k m.time ≡ true) trace
+  trace_early sends trace due l h = all_early trace (λ n g. none_unsent sends trace due n (λ e. omega arith) (unsent n g sends h))

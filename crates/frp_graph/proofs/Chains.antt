@@ -5,7 +5,7 @@ use Rattle.std.specs.List.{list_all}
 use Rattle.std.specs.Ordering.{is_lt}
 use Rattle.frp_base.specs.declared.name.Name.{Name}
 use Rattle.frp_base.specs.Name.{name_cmp}
-use Rattle.frp_expr.proofs.Tests.{both_true}
+use Rattle.frp_base.proofs.Booleans.{both_true}
 use Rattle.frp_graph.specs.Links.{is_path, are_distinct, is_closed_chain}
 
 abbrev pub LeadsLower : (Name → Name → Bool) → (Name → ℕ) → Type 0

@@ -1,11 +1,8 @@
 -- What holds of each moment with those before it, where a moment is added.
-use Rattle.std.proofs.Common.{◌≡◌, List, [], ◌∷◌, ◌++◌, refl, sym, ap, append_assoc, subst}
+use Rattle.std.proofs.Common.{List, [], ◌∷◌, ◌++◌, sym, append_assoc, subst}
+use Rattle.std.proofs.lemmas.List.{append-nil}
 use Rattle.frp_graph.specs.declared.trace.Moment.{Moment}
 use Rattle.frp_graph.specs.Moments.{AtEach}
-
-pub append-nil : {A : Type 0} (xs : List A) → xs ++ [] ≡ xs
-append-nil [] = refl
-append-nil (x ∷ xs) = ap (λ ys. x ∷ ys) (append-nil xs)
 
 module _ (P : List Moment → Moment → Type 0) where
   pub each_more : (past ms : List Moment) (m : Moment) → AtEach P past ms → P (past ++ ms) m → AtEach P past (ms ++ m ∷ [])

@@ -12,7 +12,7 @@ use Rattle.frp_base.specs.Name.{name_cmp}
 use Rattle.frp_graph.specs.declared.trace.Fact.{Fact}
 use Rattle.frp_graph.specs.declared.trace.Moment.{Moment}
 use Rattle.frp_graph.specs.declared.prog.Prog.{Prog}
-use Rattle.frp_graph.specs.Equations.{Sent}
+use Rattle.frp_graph.specs.declared.trace.Sent.{Sent}
 use Rattle.frp_graph.specs.Moments.{IsMoment, AtEach}
 use Rattle.frp_graph.specs.Laws.{IsFact, Occurs}
 use Rattle.frp_graph.proofs.Order.{time_cmp-same, name_cmp-same}

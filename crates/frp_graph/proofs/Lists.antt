@@ -2,7 +2,7 @@
 use Rattle.std.proofs.Common.{◌≡◌, ◌⊎◌, Bool, true, false, List, [], ◌∷◌, Option, Some, refl, sym, subst}
 use Rattle.std.proofs.Common.{inl, inr}
 use Rattle.std.specs.Prelude.{◌||◌, if◌then◌else◌}
-use Rattle.std.specs.List.{list_any, list_all}
+use Rattle.std.specs.List.{AllByRecursion, list_any, list_all}
 use Rattle.std.specs.Cmp.{unsigned_Decides}
 use lib.Pointwise.{pointwise_decides}
 use Rattle.frp_base.specs.declared.time.Time.{Time}
@@ -10,7 +10,7 @@ use Rattle.frp_base.specs.declared.name.Name.{Name}
 use Rattle.frp_base.specs.Time.{time_eq}
 use Rattle.frp_base.specs.Name.{name_eq}
 use Rattle.frp_base.proofs.NameLemmas.{name_decides}
-use Rattle.frp_expr.proofs.Tests.{both_true}
+use Rattle.frp_base.proofs.Booleans.{both_true}
 use Rattle.frp_graph.specs.declared.trace.Node.{Node}
 use Rattle.frp_graph.specs.declared.trace.Moment.{Moment}
 use Rattle.frp_graph.specs.Trace.{node_in, moment_at}
@@ -41,6 +41,11 @@ pub is_false : (b : Bool) → (b ≡ true → ⊥) → b ≡ false
 is_false true h = absurd (h refl)
 is_false false h = refl
 
+-- what is not false is true
+pub is_true : (b : Bool) → (b ≡ false → ⊥) → b ≡ true
+is_true true h = refl
+is_true false h = absurd (h refl)
+
 pub time_same : (a b : Time) → time_eq a b ≡ true → a ≡ b
 time_same a b h = (pointwise_decides unsigned_Decides a b).0 h
 
@@ -54,6 +59,11 @@ pub name_eq-same : (a : Name) → name_eq a a ≡ true
 name_eq-same a = (name_decides a a).1 refl
 
 -- Items.
+
+-- what follows from what holds of each item holds of each
+pub all_follow : {A : Type 0} (P Q : A → Type 0) → ((x : A) → P x → Q x) → (xs : List A) → AllByRecursion P xs → AllByRecursion Q xs
+all_follow P Q f [] h = tt
+all_follow P Q f (x ∷ xs) h = (f x h.0, all_follow P Q f xs h.1)
 
 -- an item at which a test holds, of which another test holds too
 pub any_of : {A : Type 0} (p q : A → Bool) (xs : List A) → list_any p xs ≡ true → list_all q xs ≡ true → (x : A) × ((p x ≡ true) × (q x ≡ true))

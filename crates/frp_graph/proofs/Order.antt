@@ -1,13 +1,18 @@
--- No time and no name comes before itself.
-use Rattle.std.proofs.Common.{◌≡◌, ℕ, List, [], ◌∷◌, refl, arith}
-use Rattle.std.specs.Ordering.{nat_cmp}
+-- Orders: what comes before, and that no time and no name comes before itself.
+use Rattle.std.proofs.Common.{◌≡◌, ℕ, true, List, [], ◌∷◌, refl, arith}
+use Rattle.std.specs.Ordering.{is_lt, nat_cmp}
 use Rattle.std.specs.declared.cmp.Ordering.{Ordering}
-use Rattle.std.specs.declared.cmp.Ordering.TheVariants.{Equal}
+use Rattle.std.specs.declared.cmp.Ordering.TheVariants.{Less, Equal, Greater}
 use Rattle.std.specs.Cmp.Lexicographic.{slice_cmp}
 use Rattle.std.proofs.lemmas.Grind.{common_steps}
 use Rattle.frp_base.specs.declared.name.Stage.{Stage}
 use Rattle.frp_base.specs.Time.{time_cmp}
 use Rattle.frp_base.specs.Name.{stage_cmp, name_cmp}
+
+pub lt_less : (o : Ordering) → is_lt o ≡ true → o ≡ Less
+lt_less Less h = refl
+lt_less Equal h = absurd cc
+lt_less Greater h = absurd cc
 
 pub nat_cmp-same : (n : ℕ) → nat_cmp n n ≡ Equal
 nat_cmp-same n = grind (arith, common_steps)

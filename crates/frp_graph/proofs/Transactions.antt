@@ -9,8 +9,9 @@ use Rattle.frp_base.specs.declared.time.Time.{Time}
 use Rattle.frp_base.specs.Time.{time_eq, time_cmp, parent_and_number}
 use Rattle.frp_graph.specs.declared.trace.Moment.{Moment}
 use Rattle.frp_graph.specs.Trace.{moment_at}
-use Rattle.frp_graph.specs.Equations.{Sent}
-use Rattle.frp_graph.specs.Moments.{build, splits_at, is_child_due, is_due, is_of, moments_of}
+use Rattle.frp_graph.specs.declared.trace.Sent.{Sent}
+use Rattle.frp_graph.specs.Births.{build}
+use Rattle.frp_graph.specs.Moments.{splits_at, is_child_due, is_due, is_of, transaction, moments_of}
 use Rattle.frp_graph.proofs.Times.{child_of}
 use Rattle.std.proofs.lemmas.Bool.Decides.{nat_tests}
 use Rattle.frp_graph.proofs.Lists.{or_true, either_true, time_same, time_eq-same}
@@ -54,7 +55,7 @@ some_test false None = refl
 some_test false (Some m) = refl
 
 pub transaction_is : (sends : List Sent) (trace : List Moment) → ((t : Time) → is_some (moment_at trace t) ≡ is_due sends trace t) → (k : ℕ) (t : Time)
-    → is_some (moment_at (filter (λ m. is_of k m.time) trace) t) ≡ (is_due sends trace t && is_of k t)
+    → is_some (moment_at (transaction k trace) t) ≡ (is_due sends trace t && is_of k t)
 transaction_is sends trace h k t = ap is_some (moment_of_some (is_of k) trace t) ∙ some_test (is_of k t) (moment_at trace t) ∙ ap (λ b. b && is_of k t) (h t)
 
 -- A place without a send has no moments.

@@ -4,16 +4,16 @@ use Rattle.std.proofs.Common.{inl, inr}
 use Rattle.std.specs.Prelude.{not, ◌&&◌}
 use Rattle.std.specs.List.{list_all}
 use Rattle.std.specs.Ordering.{is_lt}
-use Rattle.std.specs.declared.cmp.Ordering.{Ordering}
-use Rattle.std.specs.declared.cmp.Ordering.TheVariants.{Less, Equal, Greater}
+use Rattle.std.specs.declared.cmp.Ordering.TheVariants.{Less, Equal}
+use Rattle.std.proofs.lemmas.List.{append-nil}
 use Rattle.frp_base.specs.declared.name.Name.{Name}
 use Rattle.frp_base.specs.Name.{name_eq, name_cmp}
 use Rattle.frp_base.proofs.OrderLemmas.{name_cmp-total, name_cmp-transitive}
-use Rattle.frp_expr.proofs.Tests.{both_true, true_both}
+use Rattle.frp_base.proofs.Booleans.{both_true, true_both}
 use Rattle.frp_graph.specs.Links.{first_or, is_path, are_distinct, is_closed_chain}
 use Rattle.frp_graph.specs.Laws.{IsTurn, is_ring, TurnsToChain}
 use Rattle.frp_graph.proofs.Lists.{name_same, name_eq-same}
-use Rattle.frp_graph.proofs.Order.{name_cmp-same}
+use Rattle.frp_graph.proofs.Order.{lt_less, name_cmp-same}
 
 -- Names in lists.
 
@@ -84,11 +84,6 @@ distinct_is (n ∷ ns) t = let b = both_true (list_all (other n) ns) (are_distin
 is_distinct : (ns : List Name) → Distinct ns → are_distinct ns ≡ true
 is_distinct [] d = refl
 is_distinct (n ∷ ns) d = true_both (list_all (other n) ns) (are_distinct ns) (all_other n ns d.0) (is_distinct ns d.1)
-
-lt_less : (o : Ordering) → is_lt o ≡ true → o ≡ Less
-lt_less Less h = refl
-lt_less Equal h = absurd cc
-lt_less Greater h = absurd cc
 
 all_below : (n : Name) (ns : List Name) → ((k : Name) → In k ns → name_cmp n k ≡ Less) → list_all (λ k. is_lt (name_cmp n k)) ns ≡ true
 all_below n [] f = refl
@@ -182,10 +177,6 @@ split_once n (a ∷ us) bs (x ∷ xs) ys d e =
     let r = split_once n us bs xs ys d.1 t in
     ((λ i. h i ∷ r.0 i), r.1)
 
-append_nil : (xs : List Name) → xs ++ [] ≡ xs
-append_nil [] = refl
-append_nil (x ∷ xs) = ap (λ ys. x ∷ ys) (append_nil xs)
-
 module _ (linked : Name → Name → Bool) (m : Name) (ms : List Name) (h : is_ring linked (m ∷ ms) ≡ true) where
   names_distinct : Distinct (m ∷ ms)
   names_distinct = distinct_is (m ∷ ms) (both_true (are_distinct (m ∷ ms)) (is_path linked (m ∷ ms) m) h).0
@@ -225,9 +216,9 @@ module _ (linked : Name → Name → Bool) (m : Name) (ms : List Name) (h : is_r
     -- and then it splits the names where the least one stands
     same_rest : (front back ns : List Name) → m ∷ ms ≡ front ++ back → r.name ∷ ns ≡ back ++ front → ns ≡ r.back ++ r.front
     same_rest front [] ns p q =
-        let e : r.front ++ r.name ∷ r.back ≡ [] ++ r.name ∷ ns = sym r.is ∙ p ∙ append_nil front ∙ sym q in
+        let e : r.front ++ r.name ∷ r.back ≡ [] ++ r.name ∷ ns = sym r.is ∙ p ∙ append-nil front ∙ sym q in
         let s = split_once r.name r.front r.back [] ns parts_distinct e in
-        sym s.1 ∙ sym (append_nil r.back) ∙ ap (λ xs. r.back ++ xs) (sym s.0)
+        sym s.1 ∙ sym (append-nil r.back) ∙ ap (λ xs. r.back ++ xs) (sym s.0)
     same_rest front (k ∷ back) ns p q =
         let same : r.name ≡ k = cc in
         let rest : ns ≡ back ++ front = cc in

@@ -1,14 +1,15 @@
 -- A cell's values before and after, and the facts of a moment.
 use Rattle.std.proofs.Common.{◌≡◌, ◌↔◌, ◌⊎◌, Bool, true, false, List, [], ◌∷◌, map, Option, Some, None, refl, ap, ◌∙◌, subst}
 use Rattle.std.proofs.Common.{inl, inr}
-use Rattle.std.specs.Prelude.{if◌then◌else◌}
+use Rattle.std.specs.Prelude.{option_and_then, if◌then◌else◌}
+use Rattle.std.specs.List.{AllByRecursion}
 use Rattle.std.specs.List.Sorted.{IsStrictlySortedBy}
 use Rattle.frp_base.specs.declared.name.Name.{Name}
 use Rattle.frp_base.specs.declared.val.Val.{Val}
 use Rattle.frp_base.specs.Name.{name_eq, name_cmp}
 use Rattle.frp_graph.specs.declared.trace.Fact.{Fact}
 use Rattle.frp_graph.specs.declared.trace.Moment.{Moment}
-use Rattle.frp_graph.specs.Trace.{or_else, fact_in, pre, post, occ}
+use Rattle.frp_graph.specs.Trace.{or_else, fact_in, first_of, node_in, pre, post, occ, value_after}
 use Rattle.frp_graph.specs.Laws.{IsFact}
 use Rattle.frp_graph.proofs.Lists.{chosen, name_same, name_eq-same}
 use Rattle.frp_graph.proofs.Facts.{one_fact}
@@ -42,3 +43,8 @@ differ p (Some v) = (λ h. (v, refl, h), λ h e. h.2 (e ∙ h.1))
 
 pub tell_apart : (past : List Moment) (m : Moment) (c : Name) → (pre past m c ≡ post past m c → ⊥) ↔ ((v : Val) × (occ m c ≡ Some v) × (pre past m c ≡ Some v → ⊥))
 tell_apart past m c = differ (pre past m c) (occ m c)
+
+-- what is never born with a first value has none after
+pub streams_have_no_value : (trace : List Moment) (n : Name) → AllByRecursion (λ m. option_and_then first_of (node_in m.born n) ≡ None) trace → value_after trace n ≡ None
+streams_have_no_value [] n h = refl
+streams_have_no_value (m ∷ ms) n h = rw h.0 (streams_have_no_value ms n h.1)

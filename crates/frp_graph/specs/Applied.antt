@@ -1,6 +1,6 @@
 -- What an expression of the program, and a function value, give when they are applied to arguments, and the node that a
 -- reference names.
-use Rattle.std.specs.Prelude.{pos, List, [], ◌∷◌, ◌++◌, Option, None, option_map, slice_get, slice_index_or}
+use Rattle.std.specs.Prelude.{pos, List, [], ◌∷◌, ◌++◌, Option, Some, None, option_map, slice_get, slice_index_or}
 use Rattle.frp_base.specs.declared.name.Name.{Name}
 use Rattle.frp_base.specs.declared.val.Val.{Val, out-Val}
 use Rattle.frp_base.specs.declared.val.Val.TheOpen.{Val-F}
@@ -35,3 +35,8 @@ name_in _ = []
 
 abbrev pub target : Val → Name
 target x = name_in (out-Val x)
+
+-- what an optional value holds, where it is present
+abbrev pub present_in : Val-F Val → Option Val
+present_in (o.Present x) = Some x
+present_in _ = None

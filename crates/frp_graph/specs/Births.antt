@@ -1,12 +1,14 @@
 -- The nodes that the lines of a body make, with their references: those of the file, and those of an instance of a template.
-use Rattle.std.specs.Prelude.{ℕ, ◌+◌, List, [], ◌∷◌, ◌++◌, map, length, take, Option, Some, None, option_and_then, slice_get, slice_index_or, if◌then◌else◌}
+use Rattle.std.specs.Prelude.{ℕ, ◌+◌, List, [], ◌∷◌, ◌++◌, map, length, take, Option, Some, None, option_map, option_and_then, slice_get, slice_index_or, if◌then◌else◌}
 use Rattle.frp_base.specs.declared.name.Name.{Name}
+use Rattle.frp_base.specs.declared.time.Time.{Time}
 use Rattle.frp_base.specs.declared.ty.Ty.{Ty, out-Ty}
 use Rattle.frp_base.specs.declared.ty.Ty.TheOpen.{Ty-F}
 use Rattle.frp_base.specs.declared.ty.Ty.TheOpen as t
 use Rattle.frp_base.specs.declared.val.Val.{Val}
 use Rattle.frp_base.specs.declared.val.Val.TheVariants as v
-use Rattle.frp_base.specs.Name.{name_eq, declared_name, made_name}
+use Rattle.frp_base.specs.Time.{time_eq}
+use Rattle.frp_base.specs.Name.{name_eq, declared_name, made_name, maker}
 use Rattle.frp_expr.specs.declared.expr.Expr.{Expr}
 use Rattle.frp_expr.specs.Eval.{eval}
 use Rattle.frp_expr.specs.Parts.{zero_val}
@@ -24,6 +26,10 @@ use Rattle.frp_graph.specs.declared.shape.Shape.TheVariants as s
 use Rattle.frp_graph.specs.Trace.{Sight}
 use Rattle.frp_graph.specs.Applied.{target}
 
+-- the time of the build
+abbrev pub build : Time
+build = 0 ∷ []
+
 -- the reference to a node of this type
 abbrev pub reference_in : Ty-F Ty → Name → Val
 reference_in (t.Cell a) n = v.Cell n
@@ -32,8 +38,8 @@ reference_in _ n = v.Stream n
 abbrev pub reference : Ty → Name → Val
 reference x n = reference_in (out-Ty x) n
 
--- A node as a line makes it: without its first value, but where that is given.
-pub record Made : Type 0 where
+-- A node as a line plans it: without its first value, but where that is given.
+pub record Plan : Type 0 where
   pub name : Name
   pub shape : Shape
   pub ty : Ty
@@ -54,6 +60,7 @@ shape_of all vs l.Never = s.Never
 shape_of all vs (l.Constant o) = s.Constant
 shape_of all vs (l.Map f a) = s.Map (lam_of vs f) (node_of vs a)
 shape_of all vs (l.Filter f a) = s.Filter (lam_of vs f) (node_of vs a)
+shape_of all vs (l.Filteropt a) = s.Filteropt (node_of vs a)
 shape_of all vs (l.Merge f a b) = s.Merge (lam_of vs f) (node_of vs a) (node_of vs b)
 shape_of all vs (l.Snapshot f a c) = s.Snapshot (lam_of vs f) (node_of vs a) (node_of vs c)
 shape_of all vs (l.Split a) = s.Split (node_of vs a)
@@ -67,34 +74,52 @@ shape_of all vs (l.Switchs c) = s.Switchs (node_of vs c)
 shape_of all vs (l.Switchc c) = s.Switchc (node_of vs c)
 shape_of all vs (l.Execute a k kept) = s.Execute (node_of vs a) k (map (λ e. eval e vs) kept)
 
--- the first value that a line gives
-abbrev pub given_by : List Val → LineShape → Option Val
-given_by vs (l.Constant o) = Some (eval o vs)
-given_by vs (l.Hold o a) = Some (eval o vs)
-given_by vs _ = None
+-- the expression of the first value that a line gives its node
+abbrev pub given_expr : LineShape → Option Expr
+given_expr (l.Constant o) = Some o
+given_expr (l.Hold o a) = Some o
+given_expr l.Sink = None
+given_expr l.Never = None
+given_expr (l.Map f a) = None
+given_expr (l.Filter f a) = None
+given_expr (l.Filteropt a) = None
+given_expr (l.Merge f a b) = None
+given_expr (l.Snapshot f a c) = None
+given_expr (l.Split a) = None
+given_expr (l.Updates c) = None
+given_expr (l.Value c) = None
+given_expr (l.Loop to) = None
+given_expr (l.Mapc f c) = None
+given_expr (l.Apply cf ca) = None
+given_expr (l.Switchs c) = None
+given_expr (l.Switchc c) = None
+given_expr (l.Execute a k kept) = None
 
--- The k-th node that the lines of a body make has this name, and a cell this value before.
-module _ (name : ℕ → Name) (pre : Name → Option Val) where
-  -- The values of a body, after these: for each line its node's reference, or the value of the cell that is got; none where
-  -- there is no such value.
-  abbrev pub values_from : ℕ → List Val → List Line3 → Option (List Val)
-  values_from k vs [] = Some vs
-  values_from k vs (Node x shape ∷ ls) = values_from (k + 1) (vs ++ reference x (name k) ∷ []) ls
-  values_from k vs (Get c ∷ ls) = option_and_then (λ a. values_from k (vs ++ a ∷ []) ls) (pre (node_of vs c))
+abbrev pub given_by : List Val → LineShape → Option Val
+given_by vs shape = option_map (λ e. eval e vs) (given_expr shape)
+
+-- The k-th node that the lines of a body make has this name.
+module _ (name : ℕ → Name) where
+  -- The values of a body, after these: for each line its node's reference, or the value before of the cell that is got; none
+  -- where there is no such value.
+  abbrev pub values_from : (Name → Option Val) → ℕ → List Val → List Line3 → Option (List Val)
+  values_from pre k vs [] = Some vs
+  values_from pre k vs (Node x shape ∷ ls) = values_from pre (k + 1) (vs ++ reference x (name k) ∷ []) ls
+  values_from pre k vs (Get c ∷ ls) = option_and_then (λ a. values_from pre k (vs ++ a ∷ []) ls) (pre (node_of vs c))
 
   -- The nodes of lines of which the first comes after n of all the values of the body.
-  abbrev pub made_from : List Val → ℕ → ℕ → List Line3 → List Made
-  made_from all k n [] = []
-  made_from all k n (Node x shape ∷ ls) =
-      record { name = name k; shape = shape_of all (take n all) shape; ty = x; given = given_by (take n all) shape } ∷ made_from all (k + 1) (n + 1) ls
-  made_from all k n (Get c ∷ ls) = made_from all k (n + 1) ls
+  abbrev pub plans_from : List Val → ℕ → ℕ → List Line3 → List Plan
+  plans_from all k n [] = []
+  plans_from all k n (Node x shape ∷ ls) =
+      record { name = name k; shape = shape_of all (take n all) shape; ty = x; given = given_by (take n all) shape } ∷ plans_from all (k + 1) (n + 1) ls
+  plans_from all k n (Get c ∷ ls) = plans_from all k (n + 1) ls
 
 -- the nodes of the file
-abbrev pub file_made : Prog → List Made
-file_made prog = over (values_from declared_name (λ n. None) 0 [] prog.body.lines) where
-  over : Option (List Val) → List Made
+abbrev pub file_plans : Prog → List Plan
+file_plans prog = over (values_from declared_name (λ n. None) 0 [] prog.body.lines) where
+  over : Option (List Val) → List Plan
   over None = []
-  over (Some all) = made_from declared_name (λ n. None) all 0 0 prog.body.lines
+  over (Some all) = plans_from declared_name all 0 0 prog.body.lines
 
 -- how many nodes these lines make
 abbrev pub size_of : List Line3 → ℕ
@@ -104,7 +129,7 @@ size_of (Get c ∷ ls) = size_of ls
 
 -- An instance of a template: its nodes, and what it gives.
 pub record Instance : Type 0 where
-  pub nodes : List Made
+  pub nodes : List Plan
   pub result : Val
 
 -- The instance of a template that the node of name n makes, seen so, of the value a with these kept values; none where a
@@ -114,22 +139,40 @@ instance prog w n template kept a = do
   body ← slice_get prog.templates template
   all ← values_from (made_name n w.time) w.pre 0 (a ∷ kept) body.lines
   e ← body.give
-  Some (record { nodes = made_from (made_name n w.time) w.pre all 0 (length kept + 1) body.lines; result = eval e all })
+  Some (record { nodes = plans_from (made_name n w.time) all 0 (length kept + 1) body.lines; result = eval e all })
+
+-- What an execute is: the stream at whose occurrences it makes instances of a template, with these kept values. Only an
+-- execute makes nodes.
+pub record Execution : Type 0 where
+  pub source : Name
+  pub template : ℕ
+  pub kept : List Val
+
+abbrev pub execution : Shape → Option Execution
+execution (s.Execute a template kept) = Some (record { source = a; template = template; kept = kept })
+execution _ = None
 
 -- the instance that a node of this name and shape makes, seen so: an execute makes one where its source fires
 abbrev pub instance_in : Prog → Sight → Name → Shape → Option Instance
-instance_in prog w n (s.Execute a template kept) = option_and_then (instance prog w n template kept) (w.occ a)
-instance_in prog w n _ = None
+instance_in prog w n shape = option_and_then (λ e. option_and_then (instance prog w n e.template e.kept) (w.occ e.source)) (execution shape)
 
-abbrev pub nodes_of : Option Instance → List Made
-nodes_of None = []
-nodes_of (Some i) = i.nodes
+abbrev pub plans_of : Option Instance → List Plan
+plans_of None = []
+plans_of (Some i) = i.nodes
 
 -- the nodes that a node makes
-abbrev pub made_by : Prog → Sight → trace.Node → List Made
-made_by prog w x = nodes_of (instance_in prog w x.name x.shape)
+abbrev pub plans_by : Prog → Sight → trace.Node → List Plan
+plans_by prog w x = plans_of (instance_in prog w x.name x.shape)
 
--- the node of this name among those that are made
-abbrev pub made_in : List Made → Name → Option Made
-made_in [] n = None
-made_in (d ∷ ds) n = if name_eq d.name n then Some d else made_in ds n
+-- the one of this name
+abbrev pub plan_in : List Plan → Name → Option Plan
+plan_in [] n = None
+plan_in (d ∷ ds) n = if name_eq d.name n then Some d else plan_in ds n
+
+-- The node of a name as it is made, seen so. Its name says by whom: the file makes it at the build, or the node that is its
+-- maker.
+abbrev pub plan_as : Prog → Sight → Name → Option Plan
+plan_as prog w n = by (maker n) where
+  by : Option Name → Option Plan
+  by None = if time_eq w.time build then plan_in (file_plans prog) n else None
+  by (Some e) = option_and_then (λ x. plan_in (plans_by prog w x) n) (w.node e)

@@ -1,30 +1,21 @@
 -- The equations: the occurrence that each node has at a time, by its shape.
-use Rattle.std.specs.Prelude.{◌≡◌, ℕ, Bool, ◌||◌, ◌&&◌, List, [], ◌∷◌, Option, Some, None, is_some, option_map, option_and_then, slice_get, if◌then◌else◌}
+use Rattle.std.specs.Prelude.{◌≡◌, ℕ, Bool, ◌||◌, List, [], ◌∷◌, Option, Some, None, is_some, option_map, option_and_then, slice_get, if◌then◌else◌}
 use Rattle.std.specs.Ordering.{is_gt}
 use Rattle.frp_base.specs.declared.time.Time.{Time}
 use Rattle.frp_base.specs.declared.name.Name.{Name}
 use Rattle.frp_base.specs.declared.val.Val.{Val, out-Val}
 use Rattle.frp_base.specs.Time.{time_eq, time_cmp, parent_and_number}
-use Rattle.frp_base.specs.Name.{name_eq, birth}
+use Rattle.frp_base.specs.Name.{birth}
 use Rattle.frp_expr.specs.Parts.{bool_in, items_in}
 use Rattle.frp_graph.specs.declared.trace.Node.{Node}
+use Rattle.frp_graph.specs.declared.trace.Sent.{Sent}
 use Rattle.frp_graph.specs.declared.prog.Prog.{Prog}
 use Rattle.frp_graph.specs.declared.shape.Shape.{Shape}
-use Rattle.frp_graph.specs.declared.shape.Shape.TheVariants.{Sink, Never, Constant, Map, Filter, Merge, Snapshot, Split, Updates, Value, Loop, Hold, Mapc, Apply, Switchs, Switchc, Execute}
+use Rattle.frp_graph.specs.declared.shape.Shape.TheVariants.{Sink, Never, Constant, Map, Filter, Filteropt, Merge, Snapshot, Split, Updates, Value, Loop, Hold, Mapc, Apply, Switchs, Switchc, Execute}
 use Rattle.frp_graph.specs.Trace.{Sight, post_in}
-use Rattle.frp_graph.specs.Applied.{call, applied, target}
+use Rattle.frp_graph.specs.Applied.{call, applied, target, present_in}
 use Rattle.frp_graph.specs.Births.{instance}
-
--- what was sent: the place of the send in the history, the sink, and the value
-pub record Sent : Type 0 where
-  pub place : ℕ
-  pub sink : Name
-  pub value : Val
-
--- the value that was sent to a sink at a time
-abbrev pub sent_in : List Sent → Time → Name → Option Val
-sent_in [] t n = None
-sent_in (s ∷ ss) t n = if time_eq t (s.place ∷ []) && name_eq s.sink n then Some s.value else sent_in ss t n
+use Rattle.frp_graph.specs.Sends.{sent_in}
 
 -- the value where the test holds, else none
 abbrev pub keep_if : Bool → Option Val → Option Val
@@ -52,12 +43,13 @@ instance_result prog w x template kept a = option_map (λ i. i.result) (instance
 
 -- the occurrence at a time of a node of this shape
 abbrev pub row : Prog → List Sent → Sight → Node → Shape → Option Val
-row prog sends w x Sink = sent_in sends w.time x.name
+row prog sends w x Sink = sent_in prog sends w.time x.name
 row prog sends w x Never = None
 row prog sends w x Constant = None
 row prog sends w x (Map f s) = option_map (λ a. call prog f (a ∷ [])) (w.occ s)
 row prog sends w x (Mapc f c) = option_map (λ a. call prog f (a ∷ [])) (w.occ c)
 row prog sends w x (Filter f s) = option_and_then (λ a. keep_if (bool_in (out-Val (call prog f (a ∷ [])))) (Some a)) (w.occ s)
+row prog sends w x (Filteropt s) = option_and_then (λ a. present_in (out-Val a)) (w.occ s)
 row prog sends w x (Merge f a b) = merged (λ p q. call prog f (p ∷ q ∷ [])) (w.occ a) (w.occ b)
 row prog sends w x (Snapshot f s c) = map2 (λ p q. call prog f (p ∷ q ∷ [])) (w.occ s) (w.pre c)
 row prog sends w x (Split s) = split_item w s (birth x.name) (parent_and_number w.time)

@@ -1,32 +1,24 @@
 -- Laws that show that the definitions of traces and values mean what they should.
-use Rattle.std.specs.Prelude.{◌≡◌, ◌⊎◌, ◌↔◌, ◌==◌, ◌&&◌, ℕ, ◌+◌, ◌≤◌, length, Bool, false, List, [], ◌∷◌, ◌++◌, map, filter, Some, is_some, IsTrue}
-use Rattle.std.specs.Ordering.{is_lt}
-use Rattle.std.specs.List.{list_any}
+use Rattle.std.specs.Prelude.{◌≡◌, ◌⊎◌, ◌↔◌, ◌==◌, not, ◌&&◌, ℕ, Bool, false, List, [], ◌∷◌, ◌++◌, map, Some, None, is_some, option_and_then, IsTrue}
+use Rattle.std.specs.List.{AllByRecursion, list_any}
 use Rattle.std.specs.List.Sorted.{IsStrictlySortedBy}
 use Rattle.frp_base.specs.declared.time.Time.{Time}
 use Rattle.frp_base.specs.declared.name.Name.{Name}
-use Rattle.frp_base.specs.declared.ty.Ty.{Ty}
 use Rattle.frp_base.specs.declared.val.Val.{Val}
-use Rattle.frp_expr.specs.declared.expr.Expr.{Expr}
-use Rattle.frp_expr.specs.Eval.{eval}
-use Rattle.frp_expr.specs.Typing.{type_in}
 use Rattle.frp_graph.specs.declared.trace.Node.{Node}
 use Rattle.frp_graph.specs.declared.trace.Fact.{Fact}
 use Rattle.frp_graph.specs.declared.trace.Moment.{Moment}
+use Rattle.frp_graph.specs.declared.trace.Sent.{Sent}
 use Rattle.frp_graph.specs.declared.prog.Prog.{Prog}
-use Rattle.frp_graph.specs.declared.limits.Limits.{Limits}
-use Rattle.frp_graph.specs.declared.history.Entry.{Entry}
-use Rattle.frp_base.specs.Time.{time_cmp}
-use Rattle.frp_base.specs.Name.{name_cmp}
-use Rattle.frp_graph.specs.Trace.{Sight, occ, pre, post, moment_at, moments_before}
-use Rattle.frp_graph.specs.Births.{Made}
-use Rattle.frp_graph.specs.FirstValues.{AreBorn, AreExactly}
-use Rattle.frp_graph.specs.Equations.{Sent}
-use Rattle.frp_graph.specs.Moments.{IsTrace, IsMoment, AtEach, is_due, is_of, moments_of}
+use Rattle.frp_base.specs.Time.{time_eq, time_cmp}
+use Rattle.frp_base.specs.Name.{name_eq, name_cmp}
+use Rattle.frp_graph.specs.Trace.{Sight, first_of, node_in, occ, pre, post, moment_at, value_after}
+use Rattle.frp_graph.specs.Applied.{call}
+use Rattle.frp_graph.specs.Sends.{join_of, sent_in}
+use Rattle.frp_graph.specs.Births.{Plan, plan_in}
+use Rattle.frp_graph.specs.FirstValues.{IsBornAs, AreExactly, AreBorn, are_all_born}
+use Rattle.frp_graph.specs.Moments.{IsTrace, IsMoment, AtEach, is_due, is_of, transaction, moments_of}
 use Rattle.frp_graph.specs.Links.{is_path, are_distinct, is_closed_chain}
-use Rattle.frp_graph.specs.Windows.{window}
-use Rattle.frp_graph.specs.Legal.{IsLegal}
-use Rattle.frp_graph.specs.Values.{sigs, is_value, are_values}
 
 -- among these facts is one of the node with this value
 abbrev pub IsFact : List Fact → Name → Val → Type 0
@@ -61,14 +53,6 @@ abbrev pub EarlierMomentsStay : Type 0
 EarlierMomentsStay = (prog : Prog) (sends : List Sent) (trace : List Moment) (m : Moment)
     → AtEach (IsMoment prog sends) [] (trace ++ m ∷ []) ↔ (AtEach (IsMoment prog sends) [] trace × IsMoment prog sends trace m)
 
--- A moment that is added to a trace, at no time before a place, changes no window before that place.
-abbrev pub WindowsStay : Type 0
-WindowsStay = (trace : List Moment) (m : Moment) (n : Name) (j d : ℕ) → j ≤ d → is_lt (time_cmp m.time (d ∷ [])) ≡ false → window (trace ++ m ∷ []) n j d ≡ window trace n j d
-
--- the moments of transaction k
-abbrev pub transaction : ℕ → List Moment → List Moment
-transaction k trace = filter (λ m. is_of k m.time) trace
-
 -- A transaction's moments are exactly its due times, in order.
 abbrev pub TransactionsAreDue : Type 0
 TransactionsAreDue = (prog : Prog) (sends : List Sent) (trace : List Moment) → IsTrace prog sends trace → (k : ℕ)
@@ -80,10 +64,42 @@ abbrev pub NoneUnsent : Type 0
 NoneUnsent = (prog : Prog) (sends : List Sent) (trace : List Moment) → IsTrace prog sends trace → (k : ℕ)
     → (k ≡ 0 → ⊥) → list_any (λ s. s.place == k) sends ≡ false → moments_of k trace ≡ 0
 
--- Nodes that are born one by one as they were made, by rising name, are exactly those that were made.
+-- The nodes that are born are those of these plans: each is born as one of them is planned, and each of them is born.
+pub record AreThose (prog : Prog) (w : Sight) (plans : List Plan) (born : List Node) : Type 0 where
+  pub each_is_planned : AllByRecursion (λ x. IsBornAs prog w (plan_in plans x.name) x) born
+  pub each_is_born : IsTrue (are_all_born born plans)
+
+-- Nodes that are born one by one as they were planned, by rising name, are those of the plans.
 abbrev pub BornInOrder : Type 0
-BornInOrder = (prog : Prog) (nodes : List Node) (w : Sight) (made : List Made) (born : List Node)
-    → IsStrictlySortedBy name_cmp (map (λ d. d.name) made) → AreBorn prog nodes w made born → AreExactly prog nodes w made born
+BornInOrder = (prog : Prog) (w : Sight) (plans : List Plan) (born : List Node)
+    → IsStrictlySortedBy name_cmp (map (λ d. d.name) plans) → AreBorn prog w plans born → AreThose prog w plans born
+
+-- What is born at a time is determined by what is seen then.
+abbrev pub BirthsAreOne : Type 0
+BirthsAreOne = (prog : Prog) (w : Sight) (born others : List Node)
+    → IsStrictlySortedBy name_cmp (map (λ x. x.name) born) → IsStrictlySortedBy name_cmp (map (λ x. x.name) others)
+    → AreExactly prog w born → AreExactly prog w others → born ≡ others
+
+-- A node that is never born with a first value has no value, whatever it fires: so a stream has none.
+abbrev pub StreamsHaveNoValue : Type 0
+StreamsHaveNoValue = (trace : List Moment) (n : Name)
+    → AllByRecursion (λ m. option_and_then first_of (node_in m.born n) ≡ None) trace → value_after trace n ≡ None
+
+-- whether a send is to this sink, at this time
+abbrev pub is_sent_at : Time → Name → Sent → Bool
+is_sent_at t n s = time_eq t (s.place ∷ []) && name_eq s.sink n
+
+-- What one more send changes of what a sink has: the first that is sent to it at a time is what it has then; a later one is
+-- combined with what the earlier ones gave, by the sink's expression; elsewhere nothing changes.
+pub record IsCombined (prog : Prog) (sends : List Sent) (s : Sent) : Type 0 where
+  pub first : AllByRecursion (λ r. IsTrue (not (is_sent_at (s.place ∷ []) s.sink r))) sends
+      → sent_in prog (sends ++ s ∷ []) (s.place ∷ []) s.sink ≡ Some s.value
+  pub later : (v : Val) (code : ℕ) → sent_in prog sends (s.place ∷ []) s.sink ≡ Some v → join_of prog s.sink ≡ Some code
+      → sent_in prog (sends ++ s ∷ []) (s.place ∷ []) s.sink ≡ Some (call prog (record { code = code; kept = [] }) (v ∷ s.value ∷ []))
+  pub elsewhere : (t : Time) (n : Name) → IsTrue (not (is_sent_at t n s)) → sent_in prog (sends ++ s ∷ []) t n ≡ sent_in prog sends t n
+
+abbrev pub SendsAreCombined : Type 0
+SendsAreCombined = (prog : Prog) (sends : List Sent) (s : Sent) → IsCombined prog sends s
 
 -- a list with its end put before its beginning
 pub record IsTurn (names turned : List Name) : Type 0 where
@@ -106,17 +122,3 @@ pub record TurnsToChain (linked : Name → Name → Bool) (ring : List Name) : T
 
 abbrev pub RingsTurn : Type 0
 RingsTurn = (linked : Name → Name → Bool) (ring : List Name) → IsTrue (is_ring linked ring) → TurnsToChain linked ring
-
--- A legal history without its last entry is legal, with the moments before that entry's place.
-abbrev pub LegalBefore : Type 0
-LegalBefore = (prog : Prog) (limits : Limits) (entries : List Entry) (e : Entry) (trace : List Moment)
-    → IsLegal prog limits (entries ++ e ∷ []) trace → IsLegal prog limits entries (moments_before ((length entries + 1) ∷ []) trace)
-
--- A value of a type among some nodes is one where more nodes come after them.
-abbrev pub ValuesStay : Type 0
-ValuesStay = (prog : Prog) (nodes more : List Node) (v : Val) (x : Ty) → IsTrue (is_value prog nodes v x) → IsTrue (is_value prog (nodes ++ more) v x)
-
--- An expression of a type, over values of the types of its variables among some nodes, has a value of its type among them.
-abbrev pub EvalIsTyped : Type 0
-EvalIsTyped = (prog : Prog) (nodes : List Node) (e : Expr) (vs : List Val) (ts : List Ty) (x : Ty)
-    → IsTrue (are_values prog nodes vs ts) → type_in (sigs prog) e ts ≡ Some x → IsTrue (is_value prog nodes (eval e vs) x)

@@ -1,9 +1,10 @@
-pub mod LawfulParts
+-- What public contracts rest on.
 pub mod Trace
 pub mod Applied
-pub mod Values
 pub mod TypedProg
+pub mod Values
 pub mod Births
+pub mod Sends
 pub mod Equations
 pub mod FirstValues
 pub mod Moments
@@ -11,11 +12,8 @@ pub mod WellFormed
 pub mod Links
 pub mod Sound
 pub mod Evidence
-pub mod History
-pub mod Windows
-pub mod Limits
-pub mod Listeners
-pub mod Legal
-pub mod Sessions
 pub mod Candidates
+pub mod Limits
+-- What the functions of the crate promise: its laws.
 pub mod Laws
+pub mod ShapeLaws

@@ -1,36 +1,39 @@
 -- Which times have a moment, and when a trace meets the equations.
-use Rattle.std.specs.Prelude.{◌≡◌, ℕ, Bool, false, not, ◌||◌, ◌==◌, nat_lt, List, [], ◌∷◌, ◌++◌, Option, Some, None, is_some, IsTrue, map, length, filter, if◌then◌else◌, ⊤}
-use Rattle.std.specs.List.{AllByRecursion, list_any, flat_map}
+use Rattle.std.specs.Prelude.{◌≡◌, ℕ, Bool, false, not, ◌||◌, ◌==◌, nat_lt, List, [], ◌∷◌, ◌++◌, Option, Some, None, is_some, option_and_then, IsTrue, map, length, filter, ⊤}
+use Rattle.std.specs.List.{AllByRecursion, list_any}
 use Rattle.std.specs.List.Sorted.{IsStrictlySortedBy}
 use Rattle.std.specs.Ordering.{is_gt}
 use Rattle.frp_base.specs.declared.time.Time.{Time}
+use Rattle.frp_base.specs.declared.name.Name.{Name}
 use Rattle.frp_base.specs.declared.val.Val.{Val, out-Val}
 use Rattle.frp_base.specs.Time.{time_eq, time_cmp, parent_and_number}
 use Rattle.frp_base.specs.Name.{name_cmp}
 use Rattle.frp_expr.specs.Parts.{items_in}
 use Rattle.frp_graph.specs.declared.trace.Node.{Node}
+use Rattle.frp_graph.specs.declared.trace.Fact.{Fact}
 use Rattle.frp_graph.specs.declared.trace.Moment.{Moment}
+use Rattle.frp_graph.specs.declared.trace.Sent.{Sent}
 use Rattle.frp_graph.specs.declared.prog.Prog.{Prog}
 use Rattle.frp_graph.specs.declared.shape.Shape.{Shape}
 use Rattle.frp_graph.specs.declared.shape.Shape.TheVariants.{Split}
-use Rattle.frp_graph.specs.Trace.{Sight, live, moment_at, occ, node_in, sight_of}
-use Rattle.frp_graph.specs.Equations.{Sent, MeetsEquation}
-use Rattle.frp_graph.specs.Births.{Made, file_made, made_by}
+use Rattle.frp_graph.specs.Trace.{Sight, Each, live, moment_at, occ, sight_of}
+use Rattle.frp_graph.specs.Equations.{MeetsEquation}
+use Rattle.frp_graph.specs.Births.{build}
 use Rattle.frp_graph.specs.FirstValues.{AreExactly}
-
--- the time of the build
-abbrev pub build : Time
-build = 0 ∷ []
 
 -- Due are the build, the time of each send, and child i of a moment where a live split's source has an item i.
 
+-- the stream whose items a split gives; only a split has children
+abbrev pub split_source : Shape → Option Name
+split_source (Split s) = Some s
+split_source _ = None
+
 -- how many items a node of this shape has to give of what happened at a moment
 abbrev pub items_to_split : Moment → Shape → ℕ
-items_to_split m (Split s) = length (option_items (occ m s)) where
-  option_items : Option Val → List Val
-  option_items None = []
-  option_items (Some v) = items_in (out-Val v)
-items_to_split m _ = 0
+items_to_split m shape = count (option_and_then (occ m) (split_source shape)) where
+  count : Option Val → ℕ
+  count None = 0
+  count (Some v) = length (items_in (out-Val v))
 
 -- the nodes that are live at a time
 abbrev pub live_at : List Moment → Time → List Node
@@ -52,22 +55,25 @@ abbrev pub is_of : ℕ → Time → Bool
 is_of k [] = false
 is_of k (n ∷ ns) = n == k
 
--- how many moments transaction k has
+-- the moments of transaction k, and how many they are
+abbrev pub transaction : ℕ → List Moment → List Moment
+transaction k trace = filter (λ m. is_of k m.time) trace
+
 abbrev pub moments_of : ℕ → List Moment → ℕ
-moments_of k trace = length (filter (λ m. is_of k m.time) trace)
+moments_of k trace = length (transaction k trace)
 
--- The nodes that a program makes at a time, seen so, where these are live: at the build those of its file, and those of the
--- instances that live nodes make.
-abbrev pub made_at : Prog → List Node → Sight → List Made
-made_at prog nodes w = (if time_eq w.time build then file_made prog else []) ++ flat_map (made_by prog w) nodes
+-- What happens at a time, seen so, is what the program has where these are the sends: what is born is what is made, every
+-- equation holds, and only live nodes fire.
+pub record Happens (prog : Prog) (sends : List Sent) (w : Sight) (born : List Node) (fired : List Fact) : Type 0 where
+  pub born_exactly : AreExactly prog w born
+  pub equations : Each w (MeetsEquation prog sends w)
+  pub facts_of_live : AllByRecursion (λ f. IsTrue (is_some (w.node f.node))) fired
+  pub born_rise : IsStrictlySortedBy name_cmp (map (λ x. x.name) born)
+  pub fired_rise : IsStrictlySortedBy name_cmp (map (λ f. f.node) fired)
 
--- Moment m, after the moments before it, is one that the program has where these are the sends.
-pub record IsMoment (prog : Prog) (sends : List Sent) (past : List Moment) (m : Moment) : Type 0 where
-  pub born : AreExactly prog (live (past ++ m ∷ [])) (sight_of past m) (made_at prog (live (past ++ m ∷ [])) (sight_of past m)) m.born
-  pub equations : AllByRecursion (MeetsEquation prog sends (sight_of past m)) (live (past ++ m ∷ []))
-  pub facts_of_live : AllByRecursion (λ f. IsTrue (is_some (node_in (live (past ++ m ∷ [])) f.node))) m.fired
-  pub born_rise : IsStrictlySortedBy name_cmp (map (λ x. x.name) m.born)
-  pub fired_rise : IsStrictlySortedBy name_cmp (map (λ f. f.node) m.fired)
+-- Moment m, after the moments before it, is one that the program has.
+abbrev pub IsMoment : Prog → List Sent → List Moment → Moment → Type 0
+IsMoment prog sends past m = Happens prog sends (sight_of past m) m.born m.fired
 
 -- each moment, with those before it
 abbrev pub AtEach : (List Moment → Moment → Type 0) → List Moment → List Moment → Type 0

@@ -1,5 +1,5 @@
 -- What a trace says of a node: whether it is live, its occurrence, and a cell's value before and after a time.
-use Rattle.std.specs.Prelude.{ℕ, List, [], ◌∷◌, ◌++◌, Option, Some, None, option_and_then, filter, if◌then◌else◌}
+use Rattle.std.specs.Prelude.{◌≡◌, ℕ, List, [], ◌∷◌, ◌++◌, Option, Some, None, option_and_then, filter, if◌then◌else◌}
 use Rattle.std.specs.Ordering.{is_lt}
 use Rattle.frp_base.specs.declared.time.Time.{Time}
 use Rattle.frp_base.specs.declared.name.Name.{Name}
@@ -45,18 +45,22 @@ occ m n = fact_in m.fired n
 abbrev pub first_of : Node → Option Val
 first_of x = x.first
 
--- A cell's value before a moment is its first value where it is born then, else its value after the moments before;
--- its value after is its step, else its value before.
+-- A cell's value before a moment is its first value where it is born then, else its value after the moments before.
 abbrev pub pre_from : Option Val → Moment → Name → Option Val
 pre_from earlier m c = or_else (option_and_then first_of (node_in m.born c)) earlier
 
-abbrev pub post_from : Option Val → Moment → Name → Option Val
-post_from earlier m c = or_else (occ m c) (pre_from earlier m c)
+-- a step changes the value of what has one; a stream, which has no first value, never has one
+abbrev pub stepped : Option Val → Option Val → Option Val
+stepped None step = None
+stepped (Some v) step = or_else step (Some v)
+
+abbrev pub value_at : Option Val → Moment → Name → Option Val
+value_at earlier m c = stepped (pre_from earlier m c) (occ m c)
 
 -- a cell's value after these moments, where it had this one before them
 abbrev pub value_from : Option Val → List Moment → Name → Option Val
 value_from v [] c = v
-value_from v (m ∷ ms) c = value_from (post_from v m c) ms c
+value_from v (m ∷ ms) c = value_from (value_at v m c) ms c
 
 -- a cell's value after the moments of a trace
 abbrev pub value_after : List Moment → Name → Option Val
@@ -67,15 +71,22 @@ abbrev pub pre : List Moment → Moment → Name → Option Val
 pre past m c = pre_from (value_after past c) m c
 
 abbrev pub post : List Moment → Moment → Name → Option Val
-post past m c = post_from (value_after past c) m c
+post past m c = or_else (occ m c) (pre past m c)
 
--- What is known at a time: occurrences and steps, cells' values before, and occurrences at the parent of the time.
+-- What is seen of a graph at a time: the live nodes, occurrences and steps, cells' values before, and occurrences at the
+-- parent of the time.
 pub record Sight : Type 0 where
   pub time : Time
+  pub node : Name → Option Node
   pub occ : Name → Option Val
   pub pre : Name → Option Val
   pub above : Name → Option Val
 
+-- what holds of each live node
+abbrev pub Each : Sight → (Node → Type 0) → Type 0
+Each w P = (n : Name) (x : Node) → w.node n ≡ Some x → P x
+
+-- a cell's value after the time
 abbrev pub post_in : Sight → Name → Option Val
 post_in w c = or_else (w.occ c) (w.pre c)
 
@@ -85,4 +96,10 @@ occ_above past t n = option_and_then (λ m. occ m n) (option_and_then (λ (p : T
 
 -- what a trace shows at moment m, after these moments
 abbrev pub sight_of : List Moment → Moment → Sight
-sight_of past m = record { time = m.time; occ = occ m; pre = pre past m; above = occ_above past m.time }
+sight_of past m = record {
+  time = m.time;
+  node = node_in (live (past ++ m ∷ []));
+  occ = occ m;
+  pre = pre past m;
+  above = occ_above past m.time;
+}

@@ -2,39 +2,27 @@
 -- only what is declared before it.
 use Rattle.std.specs.Prelude.{◌≡◌, ℕ, ◌+◌, nat_le, Bool, true, false, not, ◌&&◌, ◌||◌, ◌==◌, List, [], ◌∷◌, ◌++◌, map, length, Option, Some, None, IsTrue, is_some, slice_get, unwrap_or, if◌then◌else◌, max}
 use Rattle.std.specs.Option.{option_to_list}
-use Rattle.std.specs.List.{list_any}
+use Rattle.std.specs.List.{list_any, list_all}
 use Rattle.frp_base.specs.declared.ty.Ty.{Ty, out-Ty}
 use Rattle.frp_base.specs.declared.ty.Ty.TheOpen.{Ty-F}
 use Rattle.frp_base.specs.declared.ty.Ty.TheOpen as o
 use Rattle.frp_base.specs.declared.ty.Ty.TheVariants as t
-use Rattle.frp_base.specs.declared.ty.Ty.TheFolds.{fold-Ty}
 use Rattle.frp_base.specs.Ty.{ty_eq}
 use Rattle.frp_expr.specs.declared.expr.Expr.{Expr}
-use Rattle.frp_expr.specs.Types.{item_type, given}
+use Rattle.frp_expr.specs.Types.{is_type, item_type, given}
 use Rattle.frp_expr.specs.Typing.{Sig, ◌>>=◌, has, each_has, type_in}
 use Rattle.frp_expr.specs.Uses.{uses}
 use Rattle.frp_graph.specs.declared.prog.FunDef.{FunDef}
+use Rattle.frp_graph.specs.declared.prog.Joint.{Joint}
 use Rattle.frp_graph.specs.declared.prog.Body.{Body}
 use Rattle.frp_graph.specs.declared.prog.Prog.{Prog}
 use Rattle.frp_graph.specs.declared.prog.Line3.{Line3}
 use Rattle.frp_graph.specs.declared.prog.Line3.TheVariants.{Node, Get}
 use Rattle.frp_graph.specs.declared.prog.LineLam.{LineLam}
 use Rattle.frp_graph.specs.declared.prog.LineShape.{LineShape}
-use Rattle.frp_graph.specs.declared.prog.LineShape.TheVariants.{Sink, Never, Constant, Map, Filter, Merge, Snapshot, Split, Updates, Value, Loop, Hold, Mapc, Apply, Switchs, Switchc, Execute}
+use Rattle.frp_graph.specs.declared.prog.LineShape.TheVariants.{Sink, Never, Constant, Map, Filter, Filteropt, Merge, Snapshot, Split, Updates, Value, Loop, Hold, Mapc, Apply, Switchs, Switchc, Execute}
 
 -- Types.
-
--- whether a type is one of the language, whose lists have items of plain types; and whether it is plain
-abbrev pub kind_step : Ty-F (Bool × Bool) → Bool × Bool
-kind_step (o.Pair a b) = (a.0 && b.0, a.1 && b.1)
-kind_step (o.List a) = (a.1, false)
-kind_step (o.Stream a) = (a.0, false)
-kind_step (o.Cell a) = (a.0, false)
-kind_step (o.Fun a b) = (a.0 && b.0, false)
-kind_step _ = (true, true)
-
-abbrev pub is_type : Ty → Bool
-is_type x = (fold-Ty (Bool × Bool) kind_step x).0
 
 -- what a stream and a cell hold
 abbrev pub stream_in : Ty-F Ty → Option Ty
@@ -64,6 +52,21 @@ result_in a _ = None
 
 abbrev pub result_for : Ty → Ty → Option Ty
 result_for f a = result_in a (out-Ty f)
+
+-- what an optional value holds
+abbrev pub option_in : Ty-F Ty → Option Ty
+option_in (o.Option a) = Some a
+option_in _ = None
+
+abbrev pub option_item : Ty → Option Ty
+option_item x = option_in (out-Ty x)
+
+-- the types of a function, and of the functions of a program
+abbrev pub sig_of : FunDef → Sig
+sig_of d = record { kept = d.kept; arg = d.arg; result = d.result }
+
+abbrev pub sigs : Prog → List Sig
+sigs prog = map sig_of prog.funs
 
 -- the types of these positions
 abbrev pub types_at : List Ty → List ℕ → Option (List Ty)
@@ -113,6 +116,10 @@ module _ (sigs : List Sig) (codes : List Expr) (patterns : List Pattern) where
     a ← stream_of ts s
     b ← lam_type ts f (a ∷ [])
     given (ty_eq b t.Bool) (t.Stream a)
+  shape_type ts x (Filteropt s) = do
+    a ← stream_of ts s
+    b ← option_item a
+    Some (t.Stream b)
   shape_type ts x (Merge f r s) = do
     a ← stream_of ts r
     b ← stream_of ts s
@@ -199,15 +206,27 @@ module _ (sigs : List Sig) (codes : List Expr) (patterns : List Pattern) where
 
 -- Functions.
 
-abbrev pub sig_of : FunDef → Sig
-sig_of d = record { kept = d.kept; arg = d.arg; result = d.result }
-
--- a function's expression has the type of its result, over its kept values and its argument, with earlier functions
+-- a function's kept values and its argument are of types of the language, and its expression has the type of its result
+-- over them, with earlier functions
 abbrev pub are_typed_funs : List Sig → List FunDef → Bool
 are_typed_funs sigs [] = true
-are_typed_funs sigs (d ∷ ds) = has d.result (type_in sigs d.e (d.kept ++ d.arg ∷ [])) && are_typed_funs (sigs ++ sig_of d ∷ []) ds
+are_typed_funs sigs (d ∷ ds) =
+    list_all is_type d.kept && is_type d.arg && has d.result (type_in sigs d.e (d.kept ++ d.arg ∷ [])) && are_typed_funs (sigs ++ sig_of d ∷ []) ds
 
 -- Templates.
+
+-- the most levels of templates
+abbrev pub deepest : ℕ
+deepest = 8
+
+-- whether a line makes a node, and whether it makes no sink: the file gets no value, and a template has no sink
+abbrev pub is_node_line : Line3 → Bool
+is_node_line (Node x shape) = true
+is_node_line (Get c) = false
+
+abbrev pub is_no_sink : Line3 → Bool
+is_no_sink (Node x Sink) = false
+is_no_sink _ = true
 
 -- how deep a template is that executes these: one more than the deepest
 abbrev pub line_depth : List Pattern → Line3 → ℕ
@@ -232,23 +251,51 @@ module _ (sigs : List Sig) (codes : List Expr) where
     b ← gives_type patterns body
     Some (record { param = a; kept = body.kept; gives = b; depth = depth_of patterns body.lines })
 
-  -- the most levels of templates
-  abbrev pub deepest : ℕ
-  deepest = 8
+  -- its parameter and its kept values are of types of the language, its lines are typed and no sinks, and it is not too deep
+  abbrev pub is_typed_template : List Pattern → Body → Pattern → Bool
+  is_typed_template patterns body d =
+      is_type d.param && list_all is_type d.kept && list_all is_no_sink body.lines && has_typed_lines sigs codes patterns body && nat_le d.depth deepest
 
   abbrev pub patterns_of : List Pattern → List Body → Option (List Pattern)
   patterns_of patterns [] = Some patterns
   patterns_of patterns (body ∷ more) = do
     d ← pattern_of patterns body
-    if has_typed_lines sigs codes patterns body && nat_le d.depth deepest then patterns_of (patterns ++ d ∷ []) more else None
+    if is_typed_template patterns body d then patterns_of (patterns ++ d ∷ []) more else None
 
--- The program is typed: its functions, its templates, each over those before it, and its body, which has no parameter, no
--- kept values and gives nothing.
+-- the patterns of a program's templates, each over those before it
+abbrev pub patterns_in : Prog → Option (List Pattern)
+patterns_in prog = patterns_of (sigs prog) prog.codes [] prog.templates
+
+abbrev pub patterns : Prog → List Pattern
+patterns prog = unwrap_or (patterns_in prog) []
+
+-- Combining expressions.
+
+-- what the sends to a sink are of, where the line makes a sink
+abbrev pub sink_item : Option Line3 → Option Ty
+sink_item (Some (Node x Sink)) = stream_item x
+sink_item _ = None
+
+-- a combining expression is of a sink of the file, and gives a value of the sink's type for two such values
+abbrev pub is_typed_join : Prog → Joint → Bool
+is_typed_join prog j = is_of_item (sink_item (slice_get prog.body.lines j.item)) where
+  is_of_item : Option Ty → Bool
+  is_of_item None = false
+  is_of_item (Some a) = has a (slice_get prog.codes j.code >>= λ e. type_in (sigs prog) e (a ∷ a ∷ []))
+
+-- no sink has two
+abbrev pub are_once : List Joint → Bool
+are_once [] = true
+are_once (j ∷ js) = list_all (λ k. not (j.item == k.item)) js && are_once js
+
+-- The program is typed: its functions, its templates, each over those before it, its body, which gets nothing, has no
+-- parameter and no kept values and gives nothing, and its combining expressions.
 pub record IsTypedProg (prog : Prog) : Type 0 where
   pub funs : IsTrue (are_typed_funs [] prog.funs)
-  pub patterns : List Pattern
-  pub templates : patterns_of (map sig_of prog.funs) prog.codes [] prog.templates ≡ Some patterns
-  pub lines : IsTrue (has_typed_lines (map sig_of prog.funs) prog.codes patterns prog.body)
+  pub templates : IsTrue (is_some (patterns_in prog))
+  pub lines : IsTrue (has_typed_lines (sigs prog) prog.codes (patterns prog) prog.body)
+  pub nodes_only : IsTrue (list_all is_node_line prog.body.lines)
+  pub joins : IsTrue (list_all (is_typed_join prog) prog.joins && are_once prog.joins)
   pub no_param : prog.body.param ≡ None
   pub no_kept : prog.body.kept ≡ []
   pub gives_nothing : prog.body.give ≡ None

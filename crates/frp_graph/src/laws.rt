@@ -1,4 +1,4 @@
-ghost use Rattle.frp_graph.specs.Laws.{OneOccurrence, FactsAreFound, StepsTellApart, TransactionsAreDue, NoneUnsent, BornInOrder, RingsTurn, LegalBefore, BeforeIsStrict, EarlierMomentsStay, WindowsStay, ValuesStay, EvalIsTyped};
+ghost use Rattle.frp_graph.specs.Laws.{OneOccurrence, FactsAreFound, StepsTellApart, TransactionsAreDue, NoneUnsent, BirthsAreOne, BornInOrder, RingsTurn, BeforeIsStrict, EarlierMomentsStay, SendsAreCombined, StreamsHaveNoValue};
 
 /// In a trace that meets the equations, a node has at most one occurrence at a time.
 pub fn one_occurrence()
@@ -26,11 +26,6 @@ pub fn earlier_moments_stay()
     ensures { EarlierMomentsStay }
 {}
 
-/// A moment that is added to a trace, at no time before a place, changes no window before that place.
-pub fn windows_stay()
-    ensures { WindowsStay }
-{}
-
 /// A transaction's moments are exactly its due times, in order.
 pub fn transactions_are_due()
     ensures { TransactionsAreDue }
@@ -41,29 +36,28 @@ pub fn none_unsent()
     ensures { NoneUnsent }
 {}
 
-/// Nodes that are born one by one as they were made, by rising name, are exactly those that were made.
+/// Nodes that are born one by one as they were planned, by rising name, are those of the plans.
 pub fn born_in_order()
     ensures { BornInOrder }
+{}
+
+/// What is born at a time is determined by what is seen then.
+pub fn births_are_one()
+    ensures { BirthsAreOne }
+{}
+
+/// A node that is never born with a first value, as a stream, has no value before or after a moment.
+pub fn streams_have_no_value()
+    ensures { StreamsHaveNoValue }
+{}
+
+/// What is sent to a sink at a time counts in its order: a later send is combined with what the earlier ones gave.
+pub fn sends_are_combined()
+    ensures { SendsAreCombined }
 {}
 
 /// Distinct names, each linked to the next and the last to the first, may be turned to begin with the least, and then they are
 /// a closed chain, and one list.
 pub fn rings_turn()
     ensures { RingsTurn }
-{}
-
-/// A legal history without its last entry is legal, with the moments before that entry's place.
-pub fn legal_before()
-    ensures { LegalBefore }
-{}
-
-/// A value of a type among some nodes is one where more nodes come after them.
-pub fn values_stay()
-    ensures { ValuesStay }
-{}
-
-/// An expression of a type, over values of the types of its variables among some nodes, has a value of its type among
-/// them.
-pub fn eval_is_typed()
-    ensures { EvalIsTyped }
 {}

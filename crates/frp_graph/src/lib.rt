@@ -1,31 +1,27 @@
-//! Graphs, traces and histories, and the definitions that they are held to (in `specs/`).
+//! Programs, graphs and traces, and the definitions that they are held to (in `specs/`).
 #![tactic(auto)]
 
 mod evidence;
-mod file;
-mod history;
 mod laws;
 mod limits;
 mod prog;
 mod shape;
+mod shape_laws;
 mod trace;
 
 pub use evidence::{Evidence, Phase, Ranked, Why};
-pub use file::{
-    Decl, File, Function, Give, Graph, Item, ItemForm, Listen, Param, RawSend, RawShape, Sender,
-    ShapeForm, Template,
-};
 pub use frp_expr::Expr;
-pub use history::{Cmd, Delivered, Entry, Key, No, Reply};
+pub use frp_file::{File, Item, Template};
 pub use laws::{
-    before_is_strict, born_in_order, earlier_moments_stay, eval_is_typed, facts_are_found,
-    legal_before, none_unsent, one_occurrence, rings_turn, steps_tell_apart, transactions_are_due,
-    values_stay, windows_stay,
+    before_is_strict, births_are_one, born_in_order, earlier_moments_stay, facts_are_found,
+    none_unsent, one_occurrence, rings_turn, sends_are_combined, steps_tell_apart,
+    streams_have_no_value, transactions_are_due,
 };
 pub use limits::Limits;
-pub use prog::{Body, FunDef, Line3, LineLam, LineShape, Prog};
+pub use prog::{Body, FunDef, Joint, Line3, LineLam, LineShape, Prog};
 pub use shape::{Lam, Shape};
-pub use trace::{Fact, Moment, Node};
-
-#[cfg(test)]
-mod tests;
+pub use shape_laws::{
+    allowed_stays, files_are_whole, firsts_are_typed, instances_are_there, instances_stay,
+    lines_are_allowed, links_lead, names_are_given, rows_agree, rows_are_typed,
+};
+pub use trace::{Fact, Moment, Node, Sent};

@@ -11,13 +11,23 @@ pub struct FunDef {
     pub e: Expr,
 }
 
-/// A program: its expressions, its functions and its templates, each by number from 0, and the body of its file.
+/// A program: its expressions, its functions and its templates, each by number from 0, the body of its file, and the
+/// combining expressions of its sinks.
 #[derive(Drop)]
 pub struct Prog {
     pub codes: Seq<Expr>,
     pub funs: Seq<FunDef>,
     pub templates: Seq<Body>,
     pub body: Body,
+    pub joins: Seq<Joint>,
+}
+
+/// The combining expression of a sink of the file: `item` is the number of the sink's item, from 0, and `code` that of the
+/// expression, which is over the earlier value and the later one. It makes one value of several that are sent at one time.
+#[derive(Drop)]
+pub struct Joint {
+    pub item: u64,
+    pub code: u32,
 }
 
 /// The body of a template, or of the file, which has no parameter, no kept values and gives nothing. Its expressions are
@@ -60,6 +70,9 @@ pub enum LineShape {
     },
     Filter {
         f: LineLam,
+        s: Boxed<Expr>,
+    },
+    Filteropt {
         s: Boxed<Expr>,
     },
     Merge {

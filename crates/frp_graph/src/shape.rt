@@ -24,6 +24,9 @@ pub enum Shape {
         f: Lam,
         s: Name,
     },
+    Filteropt {
+        s: Name,
+    },
     Merge {
         f: Lam,
         a: Name,

@@ -24,3 +24,13 @@ pub struct Moment {
     pub born: Seq<Node>,
     pub fired: Seq<Fact>,
 }
+
+/// A value that was sent to a sink: the place in the history of the command that sent it, from 1, and its number among the sends
+/// of that command, from 0.
+#[derive(Drop)]
+pub struct Sent {
+    pub place: u64,
+    pub part: u64,
+    pub sink: Name,
+    pub value: Val,
+}

@@ -4,10 +4,10 @@ use Rattle.std.specs.Prelude.{◌==◌}
 use Rattle.std.specs.List.{list_all}
 use Rattle.std.specs.Str.{IsAscii}
 use Rattle.std.proofs.lemmas.Grind.{common_steps}
+use Rattle.frp_base.proofs.Booleans.{both_true}
 use Rattle.frp_lex.specs.Bytes.{is_lower, is_upper, is_letter, is_in_name, is_in_text, is_escaped}
 use Rattle.frp_lex.specs.Atoms.{is_name, is_word}
 use Rattle.frp_lex.specs.Quoted.{first_bad}
-use Rattle.frp_lex.proofs.Runs.{both_true}
 
 all_ascii : (p : ℕ → Bool) → ((b : ℕ) → p b ≡ true → b < 128) → (bs : List ℕ) → list_all p bs ≡ true → IsAscii bs
 all_ascii p below [] h i = omega arith

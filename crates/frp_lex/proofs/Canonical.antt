@@ -1,5 +1,6 @@
 -- What is lexed has one canonical line.
 use Rattle.std.proofs.Common.{◌≡◌, ℕ, ◌+◌, true, List, length, [], ◌∷◌, Ok, Err, refl, sym, ap, ◌∙◌, subst}
+use Rattle.frp_base.proofs.Booleans.{true_both}
 use Rattle.frp_lex.specs.declared.token.Kind.{Kind}
 use Rattle.frp_lex.specs.declared.token.Token.{Token}
 use Rattle.frp_lex.specs.Gives.{Outcome, ◌>>=◌}
@@ -7,7 +8,6 @@ use Rattle.frp_lex.specs.Tokens.{tokens}
 use Rattle.frp_lex.specs.Spelling.{spelled, spelling, kinds, kinds_read, is_lawful, are_lawful}
 use Rattle.frp_lex.specs.Written.{IsLastGap, AreTokens}
 use Rattle.frp_lex.specs.Laws.{LexedIsLawful, LexedIsSpelled, canonical, CanonicalStays, SpellingTells}
-use Rattle.frp_lex.proofs.Runs.{true_both}
 use Rattle.frp_lex.proofs.Spelled.{spelled_is_lexed_lem}
 use Rattle.frp_lex.proofs.Written.{lexed_is_written_lem}
 

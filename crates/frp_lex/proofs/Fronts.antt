@@ -6,6 +6,7 @@ use Rattle.std.specs.Fmt.{decimal, signed_decimal}
 use Rattle.std.proofs.Math.Seq.{take-append_seam}
 use Rattle.std.proofs.lemmas.Grind.{common_steps}
 use Rattle.frp_base.specs.Val.{escaped}
+use Rattle.frp_base.proofs.Booleans.{both_true, true_both}
 use Rattle.frp_lex.specs.declared.token.Kind.{Kind}
 use Rattle.frp_lex.specs.declared.token.Kind.TheVariants as k
 use Rattle.frp_lex.specs.Gives.{Outcome}
@@ -15,7 +16,7 @@ use Rattle.frp_lex.specs.Quoted.{closing, text_most}
 use Rattle.frp_lex.specs.Tokens.{Piece, atom_from, atom_piece, text, front}
 use Rattle.frp_lex.specs.Spelling.{spelled, is_lawful}
 use Rattle.frp_lex.specs.Written.{ends_atom, is_parted}
-use Rattle.frp_lex.proofs.Runs.{both_true, true_both, ends, run, all_pass}
+use Rattle.frp_lex.proofs.Runs.{ends, run, all_pass}
 use Rattle.frp_lex.proofs.Numbers.{digits_decimal, decimal_some, positive_decimal, negative_decimal}
 use Rattle.frp_lex.proofs.Quotes.{closes, unescapes, good}
 

@@ -10,9 +10,9 @@ use Rattle.std.proofs.lemmas.Slice.Eq.{bytes_eq-Decides}
 use Rattle.std.proofs.lemmas.List.Folds.{list_all-append}
 use Rattle.std.proofs.Math.Bool.{or-true}
 use Rattle.std.proofs.lemmas.Grind.{common_steps}
+use Rattle.frp_base.proofs.Booleans.{both_true, true_both}
 use Rattle.frp_lex.specs.Bytes.{is_digit}
 use Rattle.frp_lex.specs.Atoms.{value_from, value, fits, if_fits, is_plain, positive, negative, number}
-use Rattle.frp_lex.proofs.Runs.{both_true, true_both}
 
 value_above : (n : ℕ) (bs : List ℕ) → n ≤ value_from n bs
 value_above n [] = omega arith

@@ -7,6 +7,7 @@ use Rattle.std.proofs.lemmas.List.{take-append-drop}
 use Rattle.std.proofs.lemmas.List.Folds.{length-prefix_len}
 use Rattle.std.proofs.lemmas.Grind.{common_steps}
 use Rattle.frp_base.specs.Val.{escaped}
+use Rattle.frp_base.proofs.Booleans.{true_both}
 use Rattle.frp_lex.specs.declared.token.Kind.{Kind}
 use Rattle.frp_lex.specs.declared.token.Kind.TheVariants as k
 use Rattle.frp_lex.specs.Gives.{Outcome, ◌>>=◌}
@@ -16,7 +17,7 @@ use Rattle.frp_lex.specs.Quoted.{closing, first_bad, unescaped, text_most}
 use Rattle.frp_lex.specs.Tokens.{Piece, number_or_fault, atom, atom_from, atom_piece, text, text_closed, text_inside, front}
 use Rattle.frp_lex.specs.Spelling.{spelled, is_lawful}
 use Rattle.frp_lex.specs.Written.{ends_atom, is_parted}
-use Rattle.frp_lex.proofs.Runs.{true_both, ends, run_passes, run_ends}
+use Rattle.frp_lex.proofs.Runs.{ends, run_passes, run_ends}
 use Rattle.frp_lex.proofs.Numbers.{number_spelled}
 use Rattle.frp_lex.proofs.Quotes.{closed, is_inside, is_value}
 

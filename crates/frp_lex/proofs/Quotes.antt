@@ -4,9 +4,9 @@ use Rattle.std.specs.Prelude.{◌==◌, if◌then◌else◌}
 use Rattle.std.proofs.lemmas.Grind.{common_steps}
 use Rattle.std.specs.List.{list_all}
 use Rattle.frp_base.specs.Val.{escaped}
+use Rattle.frp_base.proofs.Booleans.{both_true, true_both}
 use Rattle.frp_lex.specs.Bytes.{is_in_text, is_escaped}
 use Rattle.frp_lex.specs.Quoted.{closing, first_bad, unescaped}
-use Rattle.frp_lex.proofs.Runs.{both_true, true_both}
 
 closes_by : (n b : ℕ) (t rest : List ℕ) (q s : Bool) → (b == 34) ≡ q → (b == 92) ≡ s → ((m : ℕ) → closing false m (escaped t ++ 34 ∷ rest) ≡ Some (m + length (escaped t)))
     → closing false n (escaped (b ∷ t) ++ 34 ∷ rest) ≡ Some (n + length (escaped (b ∷ t)))

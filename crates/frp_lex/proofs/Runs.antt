@@ -1,23 +1,13 @@
--- Tests, and runs of bytes that pass one.
+-- Runs of bytes that pass a test.
 use Rattle.std.proofs.Common.{◌≡◌, ℕ, suc, ◌+◌, Bool, true, false, List, [], ◌∷◌, ◌++◌, length, take, drop, refl, arith}
-use Rattle.std.specs.Prelude.{◌&&◌, not}
+use Rattle.std.specs.Prelude.{not}
 use Rattle.std.specs.List.{list_all, prefix_len}
-
-pub both_true : (a b : Bool) → a && b ≡ true → (a ≡ true) × (b ≡ true)
-both_true true b h = (refl, h)
-both_true false b h = absurd cc
-
-pub true_both : (a b : Bool) → a ≡ true → b ≡ true → a && b ≡ true
-true_both a b p q = rw (p, q) refl
+use Rattle.frp_base.proofs.Booleans.{both_true, true_both, not_true}
 
 -- the first of these bytes doesn't pass, where there is one
 abbrev pub ends : (ℕ → Bool) → List ℕ → Bool
 ends p [] = true
 ends p (b ∷ bs) = not (p b)
-
-not_true : (b : Bool) → not b ≡ true → b ≡ false
-not_true true h = absurd cc
-not_true false h = refl
 
 -- a run ends where what follows doesn't pass
 pub run : (p : ℕ → Bool) (xs rest : List ℕ) → list_all p xs ≡ true → ends p rest ≡ true → prefix_len p (xs ++ rest) ≡ length xs

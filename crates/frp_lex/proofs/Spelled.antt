@@ -2,6 +2,7 @@
 use Rattle.std.proofs.Common.{◌≡◌, ℕ, ◌+◌, Bool, true, false, List, [], ◌∷◌, ◌++◌, length, Some, Ok, Err, refl, ap, ◌∙◌, append_assoc, length-append, arith}
 use Rattle.std.specs.Prelude.{if◌then◌else◌}
 use Rattle.std.proofs.Math.Seq.{drop-append_seam}
+use Rattle.frp_base.proofs.Booleans.{both_true}
 use Rattle.frp_lex.specs.declared.token.Kind.{Kind}
 use Rattle.frp_lex.specs.declared.token.Kind.TheVariants as k
 use Rattle.frp_lex.specs.declared.token.Token.{Token}
@@ -10,7 +11,6 @@ use Rattle.frp_lex.specs.Tokens.{token_at, tokens_from, tokens, front}
 use Rattle.frp_lex.specs.Spelling.{spelled, is_left, are_tight, gap, after, kinds_read, is_lawful, are_lawful}
 use Rattle.frp_lex.specs.Written.{ends_atom, is_parted}
 use Rattle.frp_lex.specs.Laws.{SpelledIsLexed}
-use Rattle.frp_lex.proofs.Runs.{both_true}
 use Rattle.frp_lex.proofs.Reading.{one_piece}
 use Rattle.frp_lex.proofs.Fronts.{kind_read, kind_some}
 

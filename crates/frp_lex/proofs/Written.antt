@@ -6,6 +6,7 @@ use Rattle.std.specs.Fmt.{decimal}
 use Rattle.std.proofs.lemmas.List.{append-nil}
 use Rattle.std.proofs.Math.Seq.{drop-append_seam}
 use Rattle.std.proofs.lemmas.Grind.{common_steps}
+use Rattle.frp_base.proofs.Booleans.{both_true}
 use Rattle.frp_lex.specs.declared.fault.Lex.{Lex}
 use Rattle.frp_lex.specs.declared.token.Kind.{Kind}
 use Rattle.frp_lex.specs.declared.token.Kind.TheVariants as k
@@ -17,7 +18,7 @@ use Rattle.frp_lex.specs.Tokens.{Piece, token_at, put, tokens_from, tokens, fron
 use Rattle.frp_lex.specs.Spelling.{spelled, is_lawful}
 use Rattle.frp_lex.specs.Written.{comment_after, IsGap, IsLastGap, is_parted, AreTokens, IsFaulty}
 use Rattle.frp_lex.specs.Laws.{LexedIsWritten, FaultIsFirst}
-use Rattle.frp_lex.proofs.Runs.{both_true, ends}
+use Rattle.frp_lex.proofs.Runs.{ends}
 use Rattle.frp_lex.proofs.Reading.{behind, one_piece}
 use Rattle.frp_lex.proofs.Spelled.{token_read}
 use Rattle.frp_lex.proofs.Numbers.{digits_decimal, decimal_some}

@@ -8,26 +8,27 @@ use Rattle.frp_base.specs.Time.{time_text}
 use Rattle.frp_base.specs.Name.{name_text}
 use Rattle.frp_base.specs.Val.{val_text}
 use Rattle.frp_graph.specs.declared.shape.Shape.{Shape}
-use Rattle.frp_graph.specs.declared.shape.Shape.TheVariants.{Sink, Never, Constant, Map, Filter, Merge, Snapshot, Split, Updates, Value, Loop, Hold, Mapc, Apply, Switchs, Switchc, Execute}
+use Rattle.frp_graph.specs.declared.shape.Shape.TheVariants.{Sink, Never, Constant, Map, Filter, Filteropt, Merge, Snapshot, Split, Updates, Value, Loop, Hold, Mapc, Apply, Switchs, Switchc, Execute}
 use Rattle.frp_graph.specs.declared.trace.Node.{Node}
 use Rattle.frp_graph.specs.declared.trace.Fact.{Fact}
 use Rattle.frp_graph.specs.declared.trace.Moment.{Moment}
 use Rattle.frp_graph.specs.declared.evidence.Phase.{Phase}
 use Rattle.frp_graph.specs.declared.evidence.Phase.TheVariants.{Birth, During, After}
 use Rattle.frp_graph.specs.declared.evidence.Why.{Why}
-use Rattle.frp_graph.specs.declared.evidence.Why.TheVariants.{Chain}
-use Rattle.frp_graph.specs.declared.history.Delivered.{Delivered}
-use Rattle.frp_graph.specs.declared.history.Cmd.{Cmd}
-use Rattle.frp_graph.specs.declared.history.Cmd.TheVariants.{Send, Join, Take, Leave}
-use Rattle.frp_graph.specs.declared.history.No.{No}
-use Rattle.frp_graph.specs.declared.history.No.TheVariants as no
-use Rattle.frp_graph.specs.declared.history.Reply.{Reply}
-use Rattle.frp_graph.specs.declared.history.Reply.TheVariants.{Accepted, Refused, Joined, Given, Left}
-use Rattle.frp_graph.specs.declared.history.Entry.{Entry}
+use Rattle.frp_graph.specs.declared.evidence.Why.TheVariants.{Chain, Endless, Full}
+use Rattle.frp_history.specs.declared.history.Delivered.{Delivered}
+use Rattle.frp_history.specs.declared.history.Cmd.{Cmd}
+use Rattle.frp_history.specs.declared.history.Cmd.TheVariants.{Send, Group, Join, Take, Leave}
+use Rattle.frp_history.specs.declared.history.No.{No}
+use Rattle.frp_history.specs.declared.history.No.TheVariants as no
+use Rattle.frp_history.specs.declared.history.Reply.{Reply}
+use Rattle.frp_history.specs.declared.history.Reply.TheVariants.{Accepted, Refused, Joined, Given, Left}
+use Rattle.frp_history.specs.declared.history.Entry.{Entry}
 
 -- a command, without its caller
 abbrev pub cmd_text : Cmd → List ℕ
 cmd_text (Send sink value) = codes "send " ++ name_text sink ++ codes " " ++ val_text value
+cmd_text (Group sends) = codes "group " ++ decimal (length sends)
 cmd_text (Join node) = codes "join " ++ name_text node
 cmd_text (Take key max) = codes "take " ++ decimal key.place ++ codes " " ++ decimal max
 cmd_text (Leave key) = codes "leave " ++ decimal key.place
@@ -45,7 +46,8 @@ phase_text After = codes "after"
 -- a closed chain, with a space before it: its phase and its names
 abbrev pub chain_text : Why → List ℕ
 chain_text (Chain phase names) = codes " " ++ phase_text phase ++ names_text names
-chain_text _ = []
+chain_text (Endless limit) = []
+chain_text (Full node limit) = []
 
 -- a refusal: its number, and the chain of a cyclic one
 abbrev pub refusal_text : No → List ℕ
@@ -57,6 +59,7 @@ refusal_text (no.Full e) = codes "refused 5"
 refusal_text no.UnknownNode = codes "refused 6"
 refusal_text no.UnknownListener = codes "refused 7"
 refusal_text no.NotYours = codes "refused 8"
+refusal_text (no.Twice sink) = codes "refused 10"
 
 -- a reply, as it stands in its entry's line
 abbrev pub reply_text : Reply → List ℕ
@@ -78,7 +81,24 @@ item_lines (d ∷ ds) = item_line d ++ item_lines ds
 abbrev pub given_lines : Reply → List ℕ
 given_lines (Given items) = item_lines items
 given_lines (Left items) = item_lines items
-given_lines _ = []
+given_lines (Accepted moments) = []
+given_lines (Refused refusal) = []
+given_lines (Joined key) = []
+
+-- the line of a send of a group, the lines of such sends, and the lines below an entry: those of a group
+abbrev pub sent_line : Fact → List ℕ
+sent_line f = codes "  send " ++ name_text f.node ++ codes " " ++ val_text f.value ++ codes "\n"
+
+abbrev pub send_lines : List Fact → List ℕ
+send_lines [] = []
+send_lines (f ∷ fs) = sent_line f ++ send_lines fs
+
+abbrev pub sent_lines : Cmd → List ℕ
+sent_lines (Send sink value) = []
+sent_lines (Group sends) = send_lines sends
+sent_lines (Join node) = []
+sent_lines (Take key max) = []
+sent_lines (Leave key) = []
 
 -- the line of the entry at place k, and the lines of entries of which the first has place k
 abbrev pub entry_line : ℕ → Entry → List ℕ
@@ -86,7 +106,7 @@ entry_line k e = decimal k ++ codes " " ++ decimal e.caller ++ codes " " ++ cmd_
 
 abbrev pub entry_lines : ℕ → List Entry → List ℕ
 entry_lines k [] = []
-entry_lines k (e ∷ es) = entry_line k e ++ given_lines e.reply ++ entry_lines (k + 1) es
+entry_lines k (e ∷ es) = entry_line k e ++ sent_lines e.cmd ++ given_lines e.reply ++ entry_lines (k + 1) es
 
 -- the word of a shape
 abbrev pub shape_text : Shape → List ℕ
@@ -95,6 +115,7 @@ shape_text Never = codes "never"
 shape_text Constant = codes "constant"
 shape_text (Map f s) = codes "map"
 shape_text (Filter f s) = codes "filter"
+shape_text (Filteropt s) = codes "filteropt"
 shape_text (Merge f a b) = codes "merge"
 shape_text (Snapshot f s c) = codes "snapshot"
 shape_text (Split s) = codes "split"

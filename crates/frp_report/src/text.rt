@@ -1,9 +1,10 @@
 ghost use Rattle.std.specs.Prelude.{◌≡◌, ◌++◌, IfOk, OnOk};
 ghost use Rattle.std.specs.Fmt.{decimal};
-ghost use Rattle.frp_report.specs.Report.{report_text, entry_lines, entry_line, cmd_text, reply_text, refusal_text, chain_text, phase_text, names_text, given_lines, item_lines, item_line, moment_lines, moment_line, born_lines, born_line, shape_text, first_text, fact_lines, fact_line, end_line};
+ghost use Rattle.frp_report.specs.Report.{report_text, entry_lines, entry_line, cmd_text, reply_text, sent_lines, sent_line, send_lines, refusal_text, chain_text, phase_text, names_text, given_lines, item_lines, item_line, moment_lines, moment_line, born_lines, born_line, shape_text, first_text, fact_lines, fact_line, end_line};
 
 use frp_base::{Memory, Name, Text, Val};
-use frp_graph::{Cmd, Delivered, Entry, Fact, Moment, No, Node, Phase, Reply, Shape, Why};
+use frp_graph::{Fact, Moment, Node, Phase, Shape, Why};
+use frp_history::{Cmd, Delivered, Entry, No, Reply};
 use std::alloc::Global;
 
 #[cfg(test)]
@@ -21,12 +22,13 @@ pub fn report(alloc: Global, entries: &[Entry], trace: &[Moment]) -> Result<Text
     Ok(out)
 }
 
-/// Appends the entries, the first at place 1, each with the items that it gave.
+/// Appends the entries, the first at place 1, each with the sends of a group and with the items that it gave.
 fn show_entries(alloc: Global, entries: &[Entry], out: &mut Text) -> Result<(), Memory>
     ensures { OnOk result (out.new ≡ out.old ++ entry_lines 1 entries.now) }
 {
     for (i, entry) in entries.iter().enumerate() {
         show_entry(alloc, i as u64 + 1, entry, out)?;
+        show_sent(alloc, &entry.cmd, out)?;
         show_given(alloc, &entry.reply, out)?;
     }
     Ok(())
@@ -57,6 +59,10 @@ fn show_cmd(alloc: Global, cmd: &Cmd, out: &mut Text) -> Result<(), Memory>
             out.push_str(" ")?;
             value.show(alloc, out)
         }
+        Cmd::Group { sends } => {
+            out.push_str("group ")?;
+            show_number(alloc, sends.as_slice().len() as u64, out)
+        }
         Cmd::Join { node } => {
             out.push_str("join ")?;
             node.show(out)
@@ -72,6 +78,37 @@ fn show_cmd(alloc: Global, cmd: &Cmd, out: &mut Text) -> Result<(), Memory>
             show_number(alloc, key.place, out)
         }
     }
+}
+
+/// Appends the lines below a group's line: its sends.
+fn show_sent(alloc: Global, cmd: &Cmd, out: &mut Text) -> Result<(), Memory>
+    ensures { OnOk result (out.new ≡ out.old ++ sent_lines cmd.now) }
+{
+    match cmd {
+        Cmd::Group { sends } => show_sends(alloc, sends.as_slice(), out),
+        Cmd::Send { .. } | Cmd::Join { .. } | Cmd::Take { .. } | Cmd::Leave { .. } => Ok(()),
+    }
+}
+
+/// Appends the lines of sends.
+fn show_sends(alloc: Global, sends: &[Fact], out: &mut Text) -> Result<(), Memory>
+    ensures { OnOk result (out.new ≡ out.old ++ send_lines sends.now) }
+{
+    for fact in sends {
+        show_send(alloc, fact, out)?;
+    }
+    Ok(())
+}
+
+/// Appends the line of a send of a group: its sink and its value.
+fn show_send(alloc: Global, fact: &Fact, out: &mut Text) -> Result<(), Memory>
+    ensures { OnOk result (out.new ≡ out.old ++ sent_line fact.now) }
+{
+    out.push_str("  send ")?;
+    fact.node.show(out)?;
+    out.push_str(" ")?;
+    fact.value.show(alloc, out)?;
+    out.push_str("\n")
 }
 
 /// Appends what a reply adds to its entry's line.
@@ -115,6 +152,7 @@ fn show_refusal(refusal: &No, out: &mut Text) -> Result<(), Memory>
         No::UnknownNode => out.push_str("refused 6"),
         No::UnknownListener => out.push_str("refused 7"),
         No::NotYours => out.push_str("refused 8"),
+        No::Twice(_) => out.push_str("refused 10"),
     }
 }
 
@@ -242,6 +280,7 @@ fn shape_word(shape: &Shape) -> &'static str
         Shape::Constant => "constant",
         Shape::Map { .. } => "map",
         Shape::Filter { .. } => "filter",
+        Shape::Filteropt { .. } => "filteropt",
         Shape::Merge { .. } => "merge",
         Shape::Snapshot { .. } => "snapshot",
         Shape::Split { .. } => "split",

@@ -1,5 +1,5 @@
 -- Equations by which expressions, values and types compute.
-use Rattle.std.proofs.Common.{◌≡◌, ℕ, ℤ, Bool, true, false, List, [], map, Option, Some, None, pos, refl, sym, ap, ◌∙◌, rules}
+use Rattle.std.proofs.Common.{◌≡◌, ℕ, ℤ, Bool, true, false, List, [], map, Option, Some, None, pos, negsuc, refl, sym, ap, ◌∙◌, rules}
 use Rattle.std.specs.Prelude.{◌+ℤ◌, ◌*ℤ◌, ◌-ℤ◌, ◌&&◌, int_lt, nat_lt, ◌^◌, slice_get, slice_index_or, if◌then◌else◌}
 use Rattle.std.specs.Int.{int_wrap, w64}
 use Rattle.std.proofs.lemmas.Int.{int_wrap_fits}
@@ -25,11 +25,10 @@ use Rattle.frp_expr.specs.declared.expr.Expr.TheFolds.{fold-roll-Expr, map-Expr}
 use Rattle.frp_expr.specs.Eval.{Meaning, each_value, eval, eval_step}
 use Rattle.frp_expr.specs.Parts.{zero_val, int_of, bool_of, first_of, second_of}
 use Rattle.frp_expr.specs.Operators.{wrapped}
-use Rattle.frp_expr.specs.Typing.{Sig, Kind, ◌>>=◌, has, list_kind, type_step, type_in}
+use Rattle.frp_expr.specs.Typing.{Sig, Kind, ◌>>=◌, has, each_has, list_kind, type_step, type_in}
 use Rattle.frp_expr.specs.Uses.{Noting, note, noting_step, noting, uses}
-use Rattle.frp_graph.specs.TypedProg.{kind_step}
 use Rattle.frp_expr.specs.Values.{is_of, is_of_step}
-use Rattle.frp_expr.specs.Types.{fits, given, first_type, second_type, is_plain, is_plain_step}
+use Rattle.frp_expr.specs.Types.{fits, given, first_type, second_type, kind_step}
 
 -- Types and values, looked at.
 
@@ -50,6 +49,12 @@ out-ty-stream a = ty_out (t.Stream a) (u.Stream a) (t.rolls-Stream a)
 
 pub out-ty-cell : (a : Ty) → out-Ty (t.Cell a) ≡ u.Cell a
 out-ty-cell a = ty_out (t.Cell a) (u.Cell a) (t.rolls-Cell a)
+
+pub out-ty-fun : (a b : Ty) → out-Ty (t.Fun a b) ≡ u.Fun a b
+out-ty-fun a b = ty_out (t.Fun a b) (u.Fun a b) (t.rolls-Fun a b)
+
+pub out-ty-option : (a : Ty) → out-Ty (t.Option a) ≡ u.Option a
+out-ty-option a = ty_out (t.Option a) (u.Option a) (t.rolls-Option a)
 
 pub ty_eq-same : (x : Ty) → ty_eq x x ≡ true
 ty_eq-same x = (ty_decides x x).1 refl
@@ -75,6 +80,15 @@ out-stream n = val_out (v.Stream n) (o.Stream n) (v.rolls-Stream n)
 pub out-cell : (n : Name) → out-Val (v.Cell n) ≡ o.Cell n
 out-cell n = val_out (v.Cell n) (o.Cell n) (v.rolls-Cell n)
 
+pub out-fun : (f : ℕ) (kept : List Val) → out-Val (v.Fun f kept) ≡ o.Fun f kept
+out-fun f kept = val_out (v.Fun f kept) (o.Fun f kept) (v.rolls-Fun f kept)
+
+pub out-absent : out-Val v.Absent ≡ o.Absent
+out-absent = val_out v.Absent o.Absent v.rolls-Absent
+
+pub out-present : (a : Val) → out-Val (v.Present a) ≡ o.Present a
+out-present a = val_out (v.Present a) (o.Present a) (v.rolls-Present a)
+
 -- Values of a type.
 
 module _ (node_type : Name → Option Ty) (sigs : List Sig) where
@@ -98,6 +112,15 @@ module _ (node_type : Name → Option Ty) (sigs : List Sig) where
 
   pub of-cell : (n : Name) (x : Ty) → is_of node_type sigs (v.Cell n) x ≡ is_of_step node_type sigs (o.Cell n) x (out-Ty x)
   of-cell n x = of_out (v.Cell n) (o.Cell n) x (v.rolls-Cell n)
+
+  pub of-fun : (f : ℕ) (xs : List Val) (x : Ty) → is_of node_type sigs (v.Fun f xs) x ≡ is_of_step node_type sigs (o.Fun f (map (is_of node_type sigs) xs)) x (out-Ty x)
+  of-fun f xs x = of_out (v.Fun f xs) (o.Fun f xs) x (v.rolls-Fun f xs)
+
+  pub of-absent : (x : Ty) → is_of node_type sigs v.Absent x ≡ is_of_step node_type sigs o.Absent x (out-Ty x)
+  of-absent x = of_out v.Absent o.Absent x v.rolls-Absent
+
+  pub of-present : (a : Val) (x : Ty) → is_of node_type sigs (v.Present a) x ≡ is_of_step node_type sigs (o.Present (is_of node_type sigs a)) x (out-Ty x)
+  of-present a x = of_out (v.Present a) (o.Present a) x (v.rolls-Present a)
 
 -- Expressions.
 
@@ -134,6 +157,9 @@ eval-if c a b vs = eval_out (ex.If c a b) (e.If c a b) vs (ex.rolls-If c a b)
 pub eval-list : (xs : List Expr) (vs : List Val) → eval (ex.List xs) vs ≡ v.List (each_value (map eval xs) vs)
 eval-list xs vs = eval_out (ex.List xs) (e.List xs) vs (ex.rolls-List xs)
 
+pub eval-close : (f : ℕ) (xs : List Expr) (vs : List Val) → eval (ex.Close f xs) vs ≡ v.Fun f (each_value (map eval xs) vs)
+eval-close f xs vs = eval_out (ex.Close f xs) (e.Close f xs) vs (ex.rolls-Close f xs)
+
 -- Types of expressions.
 
 module _ (sigs : List Sig) where
@@ -169,6 +195,9 @@ module _ (sigs : List Sig) where
 
   pub type-list : (xs : List Expr) (ts : List Ty) → type_in sigs (ex.List xs) ts ≡ list_kind (map (type_in sigs) xs) ts
   type-list xs ts = type_out (ex.List xs) (e.List xs) ts (ex.rolls-List xs)
+
+  pub type-close : (f : ℕ) (xs : List Expr) (ts : List Ty) → type_in sigs (ex.Close f xs) ts ≡ (slice_get sigs f >>= λ s. given (each_has s.kept (map (type_in sigs) xs) ts) (t.Fun s.arg s.result))
+  type-close f xs ts = type_out (ex.Close f xs) (e.Close f xs) ts (ex.rolls-Close f xs)
 
 -- what an operand that is a variable uses
 pub uses-var : (n i : ℕ) → uses n (ex.Var i) ≡ note n [] i
@@ -207,8 +236,14 @@ is-type-cell a = ap (λ (p : Bool × Bool). p.0) (kind_out (t.Cell a) (u.Cell a)
 pub is-plain-cell : (a : Ty) → (fold-Ty (Bool × Bool) kind_step (t.Cell a)).1 ≡ false
 is-plain-cell a = ap (λ (p : Bool × Bool). p.1) (kind_out (t.Cell a) (u.Cell a) (t.rolls-Cell a))
 
-pub plain-int : is_plain t.Int ≡ true
-plain-int = ap is_plain (sym t.rolls-Int) ∙ fold-roll-Ty Bool is_plain_step u.Int
+pub is-type-fun : (a b : Ty) → (fold-Ty (Bool × Bool) kind_step (t.Fun a b)).0 ≡ ((fold-Ty (Bool × Bool) kind_step a).0 && (fold-Ty (Bool × Bool) kind_step b).0)
+is-type-fun a b = ap (λ (p : Bool × Bool). p.0) (kind_out (t.Fun a b) (u.Fun a b) (t.rolls-Fun a b))
+
+pub is-type-option : (a : Ty) → (fold-Ty (Bool × Bool) kind_step (t.Option a)).0 ≡ (fold-Ty (Bool × Bool) kind_step a).0
+is-type-option a = ap (λ (p : Bool × Bool). p.0) (kind_out (t.Option a) (u.Option a) (t.rolls-Option a))
+
+pub is-plain-option : (a : Ty) → (fold-Ty (Bool × Bool) kind_step (t.Option a)).1 ≡ (fold-Ty (Bool × Bool) kind_step a).1
+is-plain-option a = ap (λ (p : Bool × Bool). p.1) (kind_out (t.Option a) (u.Option a) (t.rolls-Option a))
 
 -- a number that fits wraps to itself
 wrap_by : (b : Bool) (n : ℕ) → nat_lt n (2 ^ 63) ≡ b → int_wrap w64 (pos n) ≡ (if b then pos n else int_wrap w64 (pos n))
@@ -218,12 +253,22 @@ wrap_by false n e = refl
 pub wrap-pos : (n : ℕ) → int_wrap w64 (pos n) ≡ (if nat_lt n (2 ^ 63) then pos n else int_wrap w64 (pos n))
 wrap-pos n = wrap_by (nat_lt n (2 ^ 63)) n refl
 
+-- and so does one below 0
+wrap_below_by : (b : Bool) (n : ℕ) → nat_lt n (2 ^ 63) ≡ b → int_wrap w64 (negsuc n) ≡ (if b then negsuc n else int_wrap w64 (negsuc n))
+wrap_below_by true n e = int_wrap_fits w64 (negsuc n) (search (rules, nat_tests))
+wrap_below_by false n e = refl
+
+pub wrap-below : (n : ℕ) → int_wrap w64 (negsuc n) ≡ (if nat_lt n (2 ^ 63) then negsuc n else int_wrap w64 (negsuc n))
+wrap-below n = wrap_below_by (nat_lt n (2 ^ 63)) n refl
+
 pub ruleset computing = (
   out-ty-int,
   out-ty-list,
   out-ty-pair,
   out-ty-stream,
   out-ty-cell,
+  out-ty-fun,
+  out-ty-option,
   ty_eq-same,
   out-int,
   out-bool,
@@ -231,12 +276,18 @@ pub ruleset computing = (
   out-list,
   out-stream,
   out-cell,
+  out-fun,
+  out-absent,
+  out-present,
   of-int,
   of-bool,
   of-pair,
   of-list,
   of-stream,
   of-cell,
+  of-fun,
+  of-absent,
+  of-present,
   eval-int,
   eval-var,
   eval-first,
@@ -247,7 +298,9 @@ pub ruleset computing = (
   eval-lt,
   eval-if,
   eval-list,
+  eval-close,
   wrap-pos,
+  wrap-below,
 )
 
 -- the same for types
@@ -263,6 +316,7 @@ pub ruleset typing = (
   type-lt,
   type-if,
   type-list,
+  type-close,
   uses-var,
   is-type-int,
   is-plain-int,
@@ -274,7 +328,9 @@ pub ruleset typing = (
   is-plain-stream,
   is-type-cell,
   is-plain-cell,
-  plain-int,
+  is-type-fun,
+  is-type-option,
+  is-plain-option,
 )
 
 -- Occurrences that differ.

@@ -1,2 +1,3 @@
 pub mod Computing
 pub mod Traces
+pub mod Evidences

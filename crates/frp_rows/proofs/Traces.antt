@@ -1,5 +1,5 @@
 -- Tests by which a trace that is written out is seen to be lawful.
-use Rattle.std.proofs.Common.{◌≡◌, ℕ, ◌<◌, ◌≤◌, Bool, true, false, cond, List, [], ◌∷◌, ◌++◌, Option, Some, None, refl, sym, ap, ◌∙◌, subst, arith, rules}
+use Rattle.std.proofs.Common.{◌≡◌, ℕ, ◌+◌, take, drop, ◌<◌, ◌≤◌, Bool, true, false, cond, List, [], ◌∷◌, ◌++◌, Option, Some, None, refl, sym, ap, ◌∙◌, subst, arith, rules}
 use Rattle.std.specs.Prelude.{zero, suc, not, ◌&&◌, ◌||◌, nat_lt, nat_le, ◌==◌, IsTrue, is_some, slice_get, slice_index_or, if◌then◌else◌, map, filter, length}
 use Rattle.std.specs.List.{AllByRecursion, list_any, list_all}
 use Rattle.std.specs.List.Sorted.{IsStrictlySortedBy}
@@ -11,38 +11,83 @@ use Rattle.std.proofs.lemmas.List.Filters.{length-filter_both}
 use Rattle.std.proofs.Common.{inl, inr, ◌⊎◌}
 use Rattle.frp_base.specs.declared.time.Time.{Time}
 use Rattle.frp_base.specs.declared.name.Name.{Name}
+use Rattle.frp_base.specs.declared.val.Val.{Val}
 use Rattle.frp_base.specs.Time.{time_eq, time_cmp, parent_and_number}
 use Rattle.frp_base.specs.Name.{name_eq, name_cmp}
-use Rattle.frp_expr.proofs.Tests.{both_true}
+use Rattle.frp_base.proofs.Booleans.{both_true}
+use Rattle.frp_expr.specs.declared.expr.Expr.{Expr}
+use Rattle.frp_graph.specs.declared.prog.Line3.{Line3}
 use Rattle.frp_graph.specs.declared.trace.Node.{Node}
 use Rattle.frp_graph.specs.declared.trace.Moment.{Moment}
 use Rattle.frp_graph.specs.declared.trace.Fact.{Fact}
 use Rattle.frp_graph.specs.declared.prog.Prog.{Prog}
 use Rattle.frp_graph.specs.declared.limits.Limits.{Limits}
-use Rattle.frp_graph.specs.declared.history.Key.{Key}
-use Rattle.frp_graph.specs.declared.history.Cmd.{Cmd}
-use Rattle.frp_graph.specs.declared.history.Cmd.TheVariants.{Send, Join}
-use Rattle.frp_graph.specs.declared.history.Reply.{Reply}
-use Rattle.frp_graph.specs.declared.history.Reply.TheVariants.{Joined}
-use Rattle.frp_graph.specs.declared.history.Entry.{Entry}
+use Rattle.frp_history.specs.declared.history.Key.{Key}
+use Rattle.frp_history.specs.declared.history.Cmd.{Cmd}
+use Rattle.frp_history.specs.declared.history.Cmd.TheVariants.{Join, Leave}
+use Rattle.frp_history.specs.declared.history.Reply.{Reply}
+use Rattle.frp_history.specs.declared.history.Reply.TheVariants.{Joined}
+use Rattle.frp_history.specs.declared.history.Entry.{Entry}
 use Rattle.frp_graph.specs.declared.evidence.Phase.{Phase}
 use Rattle.frp_graph.specs.declared.evidence.Phase.TheVariants.{Birth, During, After}
-use Rattle.frp_graph.specs.Trace.{Sight, node_in, post_in, moment_at, sight_of, live}
-use Rattle.frp_graph.specs.Equations.{Sent, MeetsEquation}
-use Rattle.frp_graph.specs.Births.{made_in}
+use Rattle.frp_graph.specs.declared.trace.Sent.{Sent}
+use Rattle.frp_graph.specs.TypedProg.{IsTypedProg, has_typed_lines, is_node_line, is_cell}
+use Rattle.frp_graph.specs.Trace.{Sight, node_in, fact_in, post_in, moment_at, occ, sight_of, live}
+use Rattle.frp_graph.specs.Equations.{MeetsEquation}
+use Rattle.frp_graph.specs.Births.{build, file_plans, plans_by, plan_as}
 use Rattle.frp_graph.specs.FirstValues.{IsBornAs, are_all_born}
-use Rattle.frp_graph.specs.WellFormed.{has_typed_values}
+use Rattle.frp_graph.specs.WellFormed.{has_typed_first, is_typed_fact, fits, fits_cell, Allows, IsWellFormed, HasFirsts}
 use Rattle.frp_graph.specs.Sound.{IsSound, KeepsLimits}
-use Rattle.frp_graph.specs.History.{entry_at}
-use Rattle.frp_graph.specs.declared.evidence.Evidence.{Evidence}
-use Rattle.frp_graph.specs.Evidence.{IsReached}
-use Rattle.frp_graph.specs.Sessions.{calls_of}
-use Rattle.frp_graph.specs.Listeners.{Listener, key_eq, is_leave, joined_by, joined_in, IsFreeSlot}
-use Rattle.frp_graph.specs.Moments.{AtEach, IsMoment, IsTrace, made_at, build, items_to_split, live_at, is_due, is_child_due, splits_at, is_of, moments_of}
+use Rattle.frp_graph.specs.Moments.{AtEach, IsMoment, IsTrace, items_to_split, live_at, is_due, is_child_due, splits_at, is_of, moments_of}
 use Rattle.frp_graph.specs.Links.{links, links_from, is_linked, is_closed_chain, IsChainless}
+use Rattle.frp_history.specs.History.{entry_at}
+use Rattle.frp_history.specs.Sessions.{calls, calls_of, keys_of, IsSession}
+use Rattle.frp_history.specs.Listeners.{Listener, key_eq, is_leave, joined_by, joined_in, IsFreeSlot}
+use Rattle.frp_rows.specs.Writing.{program}
 use Rattle.frp_graph.proofs.Times.{child_is}
-use Rattle.frp_graph.proofs.Lists.{either_true, same_test, any_of, name_same, time_same, node_found, moment_found}
+use Rattle.frp_graph.proofs.Lists.{either_true, same_test, chosen, any_of, name_same, time_same, node_found, moment_found}
 use Rattle.frp_graph.proofs.Chains.{no_chain}
+
+-- Nodes, by name.
+
+-- what holds of each node of a list holds of each that is found in it
+pub each_in : (P : Node → Type 0) (xs : List Node) → AllByRecursion P xs → (n : Name) (x : Node) → node_in xs n ≡ Some x → P x
+each_in P [] h n x e = absurd cc
+each_in P (y ∷ ys) h n x e = elim (chosen (name_eq y.name n) y x (node_in ys n) e) [ inl c ↦ subst P c.1 h.0 | inr r ↦ each_in P ys h.1 n x r.1 ]
+
+-- the same where a test tells it
+pub each_true : (q : Node → Bool) (xs : List Node) → list_all q xs ≡ true → (n : Name) (x : Node) → node_in xs n ≡ Some x → q x ≡ true
+each_true q xs h n x e = (node_found q xs n x e h).1
+
+pub each_named : (xs : List Node) (n : Name) (x : Node) → node_in xs n ≡ Some x → x.name ≡ n
+each_named [] n x e = absurd cc
+each_named (y ∷ ys) n x e =
+    elim (chosen (name_eq y.name n) y x (node_in ys n) e) [
+      | inl c ↦ subst (λ (z : Node). z.name ≡ n) c.1 (name_same y.name n c.0)
+      | inr r ↦ each_named ys n x r.1
+    ]
+
+-- what is found among the facts has one of their names
+pub fact_true : (q : Name → Bool) (fs : List Fact) → list_all (λ f. q f.node) fs ≡ true → (n : Name) (v : Val) → fact_in fs n ≡ Some v → q n ≡ true
+fact_true q [] h n v e = absurd cc
+fact_true q (f ∷ fs) h n v e =
+    let both = both_true (q f.node) (list_all (λ (g : Fact). q g.node) fs) h in
+    elim (chosen (name_eq f.node n) f.value v (fact_in fs n) e) [
+      | inl c ↦ subst (λ (k : Name). q k ≡ true) (name_same f.node n c.0) both.0
+      | inr r ↦ fact_true q fs both.1 n v r.1
+    ]
+
+pub all_true : {A : Type 0} (q : A → Bool) (xs : List A) → list_all q xs ≡ true → AllByRecursion (λ x. IsTrue (q x)) xs
+all_true q [] h = tt
+all_true q (x ∷ xs) h = let both = both_true (q x) (list_all q xs) h in (both.0, all_true q xs both.1)
+
+-- what is asked for where a test holds, and is so in a case that has been seen
+pub asked : (a b : Bool) → not a || b ≡ true → a ≡ true → b ≡ true
+asked true b h e = h
+asked false b h e = absurd cc
+
+pub at_build : (t : Time) (b : Bool) → not (time_eq t build) || b ≡ true → t ≡ build → b ≡ true
+at_build t b h e = asked (time_eq t build) b h (subst (λ (u : Time). time_eq u build ≡ true) (sym e) refl)
 
 -- Order.
 
@@ -135,14 +180,10 @@ module _ (until : Time → Bool) (sends : List Sent) (trace : List Moment) where
       let f = moment_found (λ m. is_due sends trace m.time && until m.time) trace t m e a in
       subst (λ u. is_due sends trace u && until u ≡ true) f.0 f.1
 
-  there : (a b : Bool) → a ≡ true → not a || b ≡ true → b ≡ true
-  there true b e h = h
-  there false b e h = absurd cc
-
   -- the moments are those that are due and lie so
   pub due_until : covers until sends trace ≡ true → are_due until sends trace ≡ true → (t : Time) → is_some (moment_at trace t) ≡ (is_due sends trace t && until t)
   due_until c a t = same_test (is_some (moment_at trace t)) (is_due sends trace t && until t) (there_due a t (moment_at trace t) refl)
-      (λ h. let two = both_true (is_due sends trace t) (until t) h in there (until t) (is_some (moment_at trace t)) two.1 (due_there c t two.0))
+      (λ h. let two = both_true (is_due sends trace t) (until t) h in asked (until t) (is_some (moment_at trace t)) (due_there c t two.0) two.1)
 
 abbrev pub always : Time → Bool
 always t = true
@@ -157,38 +198,49 @@ due sends trace c a t = due_until always sends trace c a t ∙ and_true (is_due 
 
 -- Chains.
 
--- each link of the phase leads to a lower rank
-abbrev pub falls : (Name → ℕ) → List Node → Sight → Phase → Bool
-falls rank nodes w phase = list_all (λ x. list_all (λ n. nat_lt (rank n) (rank x.name)) (links nodes w phase x)) nodes
+-- each link of the phase leads to a lower rank, at the moment after these
+abbrev pub falls : (Name → ℕ) → List Moment → Moment → Phase → Bool
+falls rank past m phase = list_all (λ x. list_all (λ n. nat_lt (rank n) (rank x.name)) (links (sight_of past m) phase x)) (live (past ++ m ∷ []))
 
-module _ (rank : Name → ℕ) (nodes : List Node) (w : Sight) where
-  link_falls : (phase : Phase) (a b : Name) (o : Option Node) → node_in nodes a ≡ o → list_any (λ n. name_eq n b) (links_from nodes w (post_in w) phase o) ≡ true
-      → falls rank nodes w phase ≡ true → rank b < rank a
+module _ (rank : Name → ℕ) (past : List Moment) (m : Moment) where
+  abbrev w : Sight
+  w = sight_of past m
+
+  link_falls : (phase : Phase) (a b : Name) (o : Option Node) → w.node a ≡ o → list_any (λ n. name_eq n b) (links_from w (post_in w) phase o) ≡ true
+      → falls rank past m phase ≡ true → rank b < rank a
   link_falls phase a b None e h k = absurd cc
   link_falls phase a b (Some x) e h k =
-      let f = node_found (λ x. list_all (λ n. nat_lt (rank n) (rank x.name)) (links nodes w phase x)) nodes a x e k in
-      let n = any_of (λ n. name_eq n b) (λ n. nat_lt (rank n) (rank x.name)) (links nodes w phase x) h f.1 in
+      let f = node_found (λ x. list_all (λ n. nat_lt (rank n) (rank x.name)) (links w phase x)) (live (past ++ m ∷ [])) a x e k in
+      let n = any_of (λ n. name_eq n b) (λ n. nat_lt (rank n) (rank x.name)) (links w phase x) h f.1 in
       let lt : rank n.0 < rank x.name = grind (arith, nat_tests, n.1.1) in
       subst (λ (c : Name). rank c < rank a) (name_same n.0 b n.1.0) (subst (λ (c : Name). rank n.0 < rank c) f.0 lt)
 
-  pub phase_chainless : (phase : Phase) → falls rank nodes w phase ≡ true → (names : List Name) → is_closed_chain (is_linked nodes w phase) names ≡ false
-  phase_chainless phase h = no_chain (is_linked nodes w phase) rank (λ a b l. link_falls phase a b (node_in nodes a) refl l h)
+  pub phase_chainless : (phase : Phase) → falls rank past m phase ≡ true → (names : List Name) → is_closed_chain (is_linked w phase) names ≡ false
+  phase_chainless phase h = no_chain (is_linked w phase) rank (λ a b l. link_falls phase a b (w.node a) refl l h)
 
-  pub chainless : falls rank nodes w Birth ≡ true → falls rank nodes w During ≡ true → falls rank nodes w After ≡ true → IsChainless nodes w
+  pub chainless : falls rank past m Birth ≡ true → falls rank past m During ≡ true → falls rank past m After ≡ true → IsChainless w
   chainless b d a Birth = phase_chainless Birth b
   chainless b d a During = phase_chainless During d
   chainless b d a After = phase_chainless After a
 
 -- Whole traces.
 
+-- whether all that live nodes make at the moment after these is born, and all that the file makes, at the build
+abbrev pub makes_all : Prog → List Moment → Moment → Bool
+makes_all prog past m = list_all (λ x. are_all_born m.born (plans_by prog (sight_of past m) x)) (live (past ++ m ∷ []))
+
+abbrev pub builds_all : Prog → Moment → Bool
+builds_all prog m = not (time_eq m.time build) || are_all_born m.born (file_plans prog)
+
 -- What is to be shown of a moment beside its order: that the nodes born are those made, that each equation holds, and that only
 -- live nodes fire.
 abbrev pub Shown : Prog → List Sent → List Moment → Moment → Type 0
 Shown prog sends past m =
-    AllByRecursion (λ x. IsBornAs prog (live (past ++ m ∷ [])) (sight_of past m) (made_in (made_at prog (live (past ++ m ∷ [])) (sight_of past m)) x.name) x) m.born
-    × (are_all_born m.born (made_at prog (live (past ++ m ∷ [])) (sight_of past m)) ≡ true)
+    AllByRecursion (λ x. IsBornAs prog (sight_of past m) (plan_as prog (sight_of past m) x.name) x) m.born
+    × (makes_all prog past m ≡ true)
+    × (builds_all prog m ≡ true)
     × AllByRecursion (MeetsEquation prog sends (sight_of past m)) (live (past ++ m ∷ []))
-    × AllByRecursion (λ f. IsTrue (is_some (node_in (live (past ++ m ∷ [])) f.node))) m.fired
+    × AllByRecursion (λ f. IsTrue (is_some ((sight_of past m).node f.node))) m.fired
 
 abbrev pub moment_rises : Moment → Bool
 moment_rises m = is_rising name_cmp (map (λ x. x.name) m.born) && is_rising name_cmp (map (λ f. f.node) m.fired)
@@ -198,7 +250,17 @@ moments prog sends past [] r h = tt
 moments prog sends past (m ∷ ms) r h =
     let each = both_true (moment_rises m) (list_all moment_rises ms) r in
     let two = both_true (is_rising name_cmp (map (λ (x : Node). x.name) m.born)) (is_rising name_cmp (map (λ (f : Fact). f.node) m.fired)) each.0 in (
-      record { born = record { each_is_made = h.0.0; each_is_born = h.0.1 }; equations = h.0.2; facts_of_live = h.0.3; born_rise = rises name_cmp _ two.0; fired_rise = rises name_cmp _ two.1 },
+      record {
+        born_exactly = record {
+          each_is_made = h.0.0;
+          each_is_born = each_true (λ x. are_all_born m.born (plans_by prog (sight_of past m) x)) (live (past ++ m ∷ [])) h.0.1;
+          file_is_born = at_build m.time (are_all_born m.born (file_plans prog)) h.0.2;
+        };
+        equations = each_in (MeetsEquation prog sends (sight_of past m)) (live (past ++ m ∷ [])) h.0.3;
+        facts_of_live = h.0.4;
+        born_rise = rises name_cmp _ two.0;
+        fired_rise = rises name_cmp _ two.1;
+      },
       moments prog sends (past ++ m ∷ []) ms each.1 h.1,
     )
 
@@ -211,24 +273,31 @@ is_trace prog sends trace r c d h =
 
 -- whether values are of their types, and links fall, at each moment after these
 abbrev pub is_sound : Prog → (Name → ℕ) → List Moment → Moment → Bool
-is_sound prog rank past m = has_typed_values prog past m
-    && (falls rank (live (past ++ m ∷ [])) (sight_of past m) Birth
-    && (falls rank (live (past ++ m ∷ [])) (sight_of past m) During && falls rank (live (past ++ m ∷ [])) (sight_of past m) After))
+is_sound prog rank past m = list_all (has_typed_first prog (sight_of past m)) m.born
+    && (list_all (is_typed_fact prog (sight_of past m)) m.fired
+    && (falls rank past m Birth && (falls rank past m During && falls rank past m After)))
 
 abbrev pub are_sound : Prog → (List Moment → Name → ℕ) → List Moment → List Moment → Bool
 are_sound prog rank past [] = true
 are_sound prog rank past (m ∷ ms) = is_sound prog (rank past) past m && are_sound prog rank (past ++ m ∷ []) ms
 
+is_sound_so : (prog : Prog) (rank : Name → ℕ) (past : List Moment) (m : Moment) → is_sound prog rank past m ≡ true → IsSound prog past m
+is_sound_so prog rank past m h =
+    let b = falls rank past m Birth in
+    let d = falls rank past m During in
+    let a = falls rank past m After in
+    let facts = list_all (is_typed_fact prog (sight_of past m)) m.fired in
+    let one = both_true (list_all (has_typed_first prog (sight_of past m)) m.born) (facts && (b && (d && a))) h in
+    let two = both_true facts (b && (d && a)) one.1 in
+    let three = both_true b (d && a) two.1 in
+    let four = both_true d a three.1 in
+    record { firsts = one.0; facts = two.0; chainless = chainless rank past m three.0 four.0 four.1 }
+
 pub sound : (prog : Prog) (rank : List Moment → Name → ℕ) (past ms : List Moment) → are_sound prog rank past ms ≡ true → AtEach (IsSound prog) past ms
 sound prog rank past [] h = tt
 sound prog rank past (m ∷ ms) h =
-    let nodes = live (past ++ m ∷ []) in
-    let w = sight_of past m in
     let each = both_true (is_sound prog (rank past) past m) (are_sound prog rank (past ++ m ∷ []) ms) h in
-    let a = both_true (has_typed_values prog past m) (falls (rank past) nodes w Birth && (falls (rank past) nodes w During && falls (rank past) nodes w After)) each.0 in
-    let b = both_true (falls (rank past) nodes w Birth) (falls (rank past) nodes w During && falls (rank past) nodes w After) a.1 in
-    let d = both_true (falls (rank past) nodes w During) (falls (rank past) nodes w After) b.1 in
-    (record { values = a.0; chainless = chainless (rank past) nodes w b.0 d.0 d.1 }, sound prog rank (past ++ m ∷ []) ms each.1)
+    (is_sound_so prog (rank past) past m each.0, sound prog rank (past ++ m ∷ []) ms each.1)
 
 -- Sizes.
 
@@ -269,28 +338,6 @@ few_of limit trace h k false e = let z : moments_of k trace ≡ 0 = ap length (n
 pub within_each : (limits : Limits) (trace : List Moment) → few_each limits.moments trace ≡ true → length (live trace) ≤ limits.nodes → KeepsLimits limits trace
 within_each limits trace m n = record { moments = λ k. few_of limits.moments trace m k (list_any (λ m. is_of k m.time) trace) refl; nodes = n }
 
--- Evidence.
-
--- the moments up to the last time of the evidence are lawful by these tests, and by what is shown of each
-pub reached : (prog : Prog) (limits : Limits) (sends : List Sent) (k : ℕ) (past : List Moment) (e : Evidence) (rank : List Moment → Name → ℕ)
-    → is_rising time_cmp (map (λ m. m.time) past) && list_all moment_rises past ≡ true
-    → covers (λ t. is_lt (time_cmp t e.last.time)) sends past ≡ true → are_due (λ t. is_lt (time_cmp t e.last.time)) sends past ≡ true
-    → AtEach (Shown prog sends) [] past → are_sound prog rank [] past ≡ true → length past ≤ limits.moments → length (live past) ≤ limits.nodes
-    → is_due sends past e.last.time ≡ true → list_all (λ m. is_of k m.time) (e.done ++ e.last ∷ []) ≡ true → length e.done < limits.moments
-    → IsReached prog limits sends k past e
-reached prog limits sends k past e rank r c d h s m n l o f =
-    let two = both_true (is_rising time_cmp (map (λ (m : Moment). m.time) past)) (list_all moment_rises past) r in
-    record {
-      rising = rises time_cmp _ two.0;
-      due = due_until (λ t. is_lt (time_cmp t e.last.time)) sends past c d;
-      moments = moments prog sends [] past two.1 h;
-      sound = sound prog rank [] past s;
-      within = within limits past m n;
-      last_due = l;
-      of_this = o;
-      room = f;
-    }
-
 -- Slots.
 
 abbrev pub gives_slot : ℕ → Reply → Bool
@@ -327,6 +374,52 @@ free entries slot h key l e =
     let f : list_any (λ (r : Entry). gives_slot key.slot r.reply) entries ≡ false = rw e h in
     cc
 
+-- Programs.
+
+-- a program without functions, templates and combining expressions is typed where its lines are
+pub typed : (codes : List Expr) (lines : List Line3) → has_typed_lines [] codes [] (program codes lines).body ≡ true → list_all is_node_line lines ≡ true → IsTypedProg (program codes lines)
+typed codes lines l n = record { funs = refl; templates = refl; lines = l; nodes_only = n; joins = refl; no_param = refl; no_kept = refl; gives_nothing = refl }
+
+-- what is seen at the moment after these is of its node's type
+abbrev pub fits_at : Prog → List Moment → Moment → Node → Bool
+fits_at prog past m x = fits_cell prog (sight_of past m) x x.first
+    && (fits_cell prog (sight_of past m) x ((sight_of past m).pre x.name)
+    && (fits prog (sight_of past m) x (occ m x.name) && fits prog (sight_of past m) x ((sight_of past m).above x.name)))
+
+pub well_formed : (prog : Prog) (past : List Moment) (m : Moment) → IsTypedProg prog
+    → AllByRecursion (λ x. Allows prog (sight_of past m) x.ty x.shape) (live (past ++ m ∷ [])) → list_all (fits_at prog past m) (live (past ++ m ∷ [])) ≡ true
+    → list_all (λ f. is_some (node_in (live (past ++ m ∷ [])) f.node)) m.fired ≡ true → IsWellFormed prog (sight_of past m)
+well_formed prog past m p s f l =
+    let w = sight_of past m in
+    let nodes = live (past ++ m ∷ []) in
+    let first : Node → Bool = λ x. fits_cell prog w x x.first in
+    let before : Node → Bool = λ x. fits_cell prog w x (w.pre x.name) in
+    let now : Node → Bool = λ x. fits prog w x (occ m x.name) in
+    let above : Node → Bool = λ x. fits prog w x (w.above x.name) in
+    let one : (n : Name) (x : Node) → node_in nodes n ≡ Some x → first x && (before x && (now x && above x)) ≡ true = each_true (fits_at prog past m) nodes f in
+    record {
+      program = p;
+      shapes = each_in (λ x. Allows prog w x.ty x.shape) nodes s;
+      named = each_named nodes;
+      firsts = λ n x e. (both_true (first x) (before x && (now x && above x)) (one n x e)).0;
+      befores = λ n x e. (both_true (before x) (now x && above x) (both_true (first x) (before x && (now x && above x)) (one n x e)).1).0;
+      occurrences = λ n x e. (both_true (now x) (above x) (both_true (before x) (now x && above x) (both_true (first x) (before x && (now x && above x)) (one n x e)).1).1).0;
+      aboves = λ n x e. (both_true (now x) (above x) (both_true (before x) (now x && above x) (both_true (first x) (before x && (now x && above x)) (one n x e)).1).1).1;
+      only_live = fact_true (λ n. is_some (node_in nodes n)) m.fired l;
+    }
+
+pub has_firsts : (past : List Moment) (m : Moment)
+    → list_all (λ x. not (is_cell x.ty) || (is_some x.first && is_some ((sight_of past m).pre x.name))) (live (past ++ m ∷ [])) ≡ true → HasFirsts (sight_of past m)
+has_firsts past m h =
+    let first : Node → Bool = λ x. is_some x.first in
+    let before : Node → Bool = λ x. is_some ((sight_of past m).pre x.name) in
+    let one : (n : Name) (x : Node) → node_in (live (past ++ m ∷ [])) n ≡ Some x → not (is_cell x.ty) || (first x && before x) ≡ true
+    = each_true (λ x. not (is_cell x.ty) || (first x && before x)) (live (past ++ m ∷ [])) h in
+    record {
+      first = λ n x e c. (both_true (first x) (before x) (asked (is_cell x.ty) (first x && before x) (one n x e) c)).0;
+      before = λ n x e c. (both_true (first x) (before x) (asked (is_cell x.ty) (first x && before x) (one n x e) c)).1;
+    }
+
 -- Sessions.
 
 others_none : (i : ℕ) (es : List Entry) → list_all (λ e. e.caller == 1) es ≡ true → calls_of (suc (suc i)) es ≡ []
@@ -337,7 +430,27 @@ others_none i (e ∷ es) h =
     rw c (others_none i es b.1)
 
 -- the sends of one script, by caller 1
-pub one_script : (script : List Fact) (es : List Entry) → list_all (λ e. e.caller == 1) es ≡ true → calls_of 1 es ≡ map (λ f. Send f.node f.value) script
-    → (i : ℕ) → calls_of (suc i) es ≡ map (λ f. Send f.node f.value) (slice_index_or (script ∷ []) i [])
+one_script : (script : List Cmd) (es : List Entry) → list_all (λ e. e.caller == 1) es ≡ true → calls_of 1 es ≡ script
+    → (i : ℕ) → calls_of (suc i) es ≡ slice_index_or (script ∷ []) i []
 one_script script es h c zero = c
 one_script script es h c (suc i) = others_none i es h
+
+-- A history is a session of a file with one sender, where so many of its entries are joins, then so many sends, and the rest
+-- leaves, as these tests tell.
+pub session : (listens : List Name) (script : List Cmd) (entries : List Entry) (j k : ℕ)
+    → entries ≡ take j entries ++ take k (drop j entries) ++ drop (j + k) entries
+    → calls (take j entries) ≡ map (λ n. record { caller = 0; cmd = Join n }) listens
+    → list_all (λ e. e.caller == 1) (take k (drop j entries)) ≡ true → calls_of 1 (take k (drop j entries)) ≡ script
+    → calls_of 0 (take k (drop j entries)) ≡ []
+    → calls (drop (j + k) entries) ≡ map (λ k. record { caller = 0; cmd = Leave k }) (keys_of (take j entries))
+    → IsSession listens (script ∷ []) entries
+session listens script entries j k i o c s n l = record {
+  joins = take j entries;
+  sends = take k (drop j entries);
+  leaves = drop (j + k) entries;
+  in_order = i;
+  joined = o;
+  sent = one_script script (take k (drop j entries)) c s;
+  only_scripts = n;
+  left = l;
+}

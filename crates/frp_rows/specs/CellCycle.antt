@@ -3,7 +3,6 @@
 -- (sender (send k m) (send k z))
 use Rattle.std.specs.Prelude.{List, [], ◌∷◌}
 use Rattle.frp_base.specs.declared.name.Name.{Name}
-use Rattle.frp_graph.specs.declared.trace.Fact.{Fact}
 use Rattle.frp_base.specs.declared.ty.Ty.TheVariants as t
 use Rattle.frp_expr.specs.declared.expr.Expr.TheVariants as ex
 use Rattle.frp_graph.specs.declared.prog.Prog.{Prog}
@@ -11,14 +10,15 @@ use Rattle.frp_graph.specs.declared.prog.Line3.TheVariants as line
 use Rattle.frp_graph.specs.declared.prog.LineShape.TheVariants as l
 use Rattle.frp_graph.specs.declared.shape.Shape.TheVariants as s
 use Rattle.frp_graph.specs.declared.trace.Moment.{Moment}
-use Rattle.frp_graph.specs.declared.history.Entry.{Entry}
-use Rattle.frp_graph.specs.declared.history.Reply.TheVariants.{Accepted}
-use Rattle.frp_rows.specs.Writing.{item, cell_of, num, lit, program, code, lam, stream, cell, fires, moment, listens, sends, leaves, gave}
+use Rattle.frp_history.specs.declared.history.Cmd.{Cmd}
+use Rattle.frp_history.specs.declared.history.Entry.{Entry}
+use Rattle.frp_history.specs.declared.history.Reply.TheVariants.{Accepted}
+use Rattle.frp_rows.specs.Writing.{item, cell_of, num, lit, program, code, lam, stream, cell, fires, moment, listens, send, sends, leaves, gave}
 use Rattle.frp_graph.specs.declared.evidence.Evidence.{Evidence}
 use Rattle.frp_graph.specs.declared.evidence.Phase.TheVariants.{During}
 use Rattle.frp_graph.specs.declared.evidence.Why.TheVariants.{Chain}
-use Rattle.frp_graph.specs.declared.history.Reply.TheVariants.{Refused}
-use Rattle.frp_graph.specs.declared.history.No.TheVariants.{Cyclic}
+use Rattle.frp_history.specs.declared.history.Reply.TheVariants.{Refused}
+use Rattle.frp_history.specs.declared.history.No.TheVariants.{Cyclic}
 use Rattle.frp_rows.specs.Writing.{ranked}
 
 abbrev pub prog : Prog
@@ -68,5 +68,5 @@ entries = listens 3 1
 abbrev pub listened : List Name
 listened = item 3 ∷ []
 
-abbrev pub script : List Fact
-script = fires 0 (cell_of 4) ∷ fires 0 (cell_of 1) ∷ []
+abbrev pub script : List Cmd
+script = send 0 (cell_of 4) ∷ send 0 (cell_of 1) ∷ []

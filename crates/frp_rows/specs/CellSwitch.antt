@@ -3,7 +3,6 @@
 -- (let w (switchc c))) (listen w) (sender (send a 5))
 use Rattle.std.specs.Prelude.{List, [], ◌∷◌}
 use Rattle.frp_base.specs.declared.name.Name.{Name}
-use Rattle.frp_graph.specs.declared.trace.Fact.{Fact}
 use Rattle.frp_base.specs.declared.ty.Ty.TheVariants as t
 use Rattle.frp_expr.specs.declared.expr.Expr.TheVariants as ex
 use Rattle.frp_graph.specs.declared.prog.Prog.{Prog}
@@ -11,9 +10,10 @@ use Rattle.frp_graph.specs.declared.prog.Line3.TheVariants as line
 use Rattle.frp_graph.specs.declared.prog.LineShape.TheVariants as l
 use Rattle.frp_graph.specs.declared.shape.Shape.TheVariants as s
 use Rattle.frp_graph.specs.declared.trace.Moment.{Moment}
-use Rattle.frp_graph.specs.declared.history.Entry.{Entry}
-use Rattle.frp_graph.specs.declared.history.Reply.TheVariants.{Accepted}
-use Rattle.frp_rows.specs.Writing.{item, cell_of, num, lit, program, code, lam, stream, cell, fires, moment, listens, sends, leaves, gave}
+use Rattle.frp_history.specs.declared.history.Cmd.{Cmd}
+use Rattle.frp_history.specs.declared.history.Entry.{Entry}
+use Rattle.frp_history.specs.declared.history.Reply.TheVariants.{Accepted}
+use Rattle.frp_rows.specs.Writing.{item, cell_of, num, lit, program, code, lam, stream, cell, fires, moment, listens, send, sends, leaves, gave}
 
 abbrev pub prog : Prog
 prog = program (ex.Mul (ex.Var 0) (lit 10) ∷ ex.Var 0 ∷ [])
@@ -57,5 +57,5 @@ entries = listens 6 1
 abbrev pub listened : List Name
 listened = item 6 ∷ []
 
-abbrev pub script : List Fact
-script = fires 0 (num 5) ∷ []
+abbrev pub script : List Cmd
+script = send 0 (num 5) ∷ []

@@ -3,7 +3,6 @@
 -- (let p (split d)) (tie l p) (let h (hold 9 u))), sent 4 and then 3
 use Rattle.std.specs.Prelude.{List, [], ◌∷◌}
 use Rattle.frp_base.specs.declared.name.Name.{Name}
-use Rattle.frp_graph.specs.declared.trace.Fact.{Fact}
 use Rattle.frp_base.specs.declared.ty.Ty.TheVariants as t
 use Rattle.frp_base.specs.declared.val.Val.TheVariants as v
 use Rattle.frp_expr.specs.declared.expr.Expr.TheVariants as ex
@@ -12,13 +11,14 @@ use Rattle.frp_graph.specs.declared.prog.Line3.TheVariants as line
 use Rattle.frp_graph.specs.declared.prog.LineShape.TheVariants as l
 use Rattle.frp_graph.specs.declared.shape.Shape.TheVariants as s
 use Rattle.frp_graph.specs.declared.trace.Moment.{Moment}
-use Rattle.frp_graph.specs.declared.history.Entry.{Entry}
-use Rattle.frp_graph.specs.declared.history.Reply.TheVariants.{Accepted}
-use Rattle.frp_rows.specs.Writing.{item, num, lit, program, code, lam, stream, cell, fires, moment, sends}
+use Rattle.frp_history.specs.declared.history.Cmd.{Cmd}
+use Rattle.frp_history.specs.declared.history.Entry.{Entry}
+use Rattle.frp_history.specs.declared.history.Reply.TheVariants.{Accepted}
+use Rattle.frp_rows.specs.Writing.{item, num, lit, program, code, lam, stream, cell, fires, moment, send, sends}
 use Rattle.frp_graph.specs.declared.evidence.Evidence.{Evidence}
 use Rattle.frp_graph.specs.declared.evidence.Why.TheVariants.{Endless}
-use Rattle.frp_graph.specs.declared.history.Reply.TheVariants.{Refused}
-use Rattle.frp_graph.specs.declared.history.No.TheVariants as no
+use Rattle.frp_history.specs.declared.history.Reply.TheVariants.{Refused}
+use Rattle.frp_history.specs.declared.history.No.TheVariants as no
 use Rattle.frp_graph.specs.declared.limits.Limits.{Limits}
 use Rattle.frp_rows.specs.Writing.{ranked, usual}
 use Rattle.std.specs.Prelude.{ℕ}
@@ -84,5 +84,5 @@ entries = sends 0 (num 4) (Refused (no.Endless evidence))
 abbrev pub listened : List Name
 listened = []
 
-abbrev pub script : List Fact
-script = fires 0 (num 4) ∷ fires 0 (num 3) ∷ []
+abbrev pub script : List Cmd
+script = send 0 (num 4) ∷ send 0 (num 3) ∷ []

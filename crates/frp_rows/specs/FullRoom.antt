@@ -3,7 +3,6 @@
 -- in a room of six nodes, sent 1, 2 and 3
 use Rattle.std.specs.Prelude.{List, [], ◌∷◌}
 use Rattle.frp_base.specs.declared.name.Name.{Name}
-use Rattle.frp_graph.specs.declared.trace.Fact.{Fact}
 use Rattle.frp_base.specs.declared.ty.Ty.TheVariants as t
 use Rattle.frp_expr.specs.declared.expr.Expr.TheVariants as ex
 use Rattle.frp_graph.specs.declared.prog.Prog.{Prog}
@@ -11,15 +10,18 @@ use Rattle.frp_graph.specs.declared.prog.Line3.TheVariants as line
 use Rattle.frp_graph.specs.declared.prog.LineShape.TheVariants as l
 use Rattle.frp_graph.specs.declared.shape.Shape.TheVariants as s
 use Rattle.frp_graph.specs.declared.trace.Moment.{Moment}
-use Rattle.frp_graph.specs.declared.history.Entry.{Entry}
-use Rattle.frp_graph.specs.declared.history.Reply.TheVariants.{Accepted}
-use Rattle.frp_rows.specs.Writing.{item, num, stream, fires, sends}
+use Rattle.frp_history.specs.declared.history.Cmd.{Cmd}
+use Rattle.frp_history.specs.declared.history.Entry.{Entry}
+use Rattle.frp_history.specs.declared.history.Reply.TheVariants.{Accepted}
+use Rattle.frp_rows.specs.Writing.{item, num, stream, fires, send, sends}
 use Rattle.frp_graph.specs.declared.evidence.Evidence.{Evidence}
 use Rattle.frp_graph.specs.declared.evidence.Why.TheVariants.{Full}
-use Rattle.frp_graph.specs.declared.history.Reply.TheVariants.{Refused}
-use Rattle.frp_graph.specs.declared.history.No.TheVariants as no
+use Rattle.frp_history.specs.declared.history.Reply.TheVariants.{Refused}
+use Rattle.frp_history.specs.declared.history.No.TheVariants as no
 use Rattle.frp_graph.specs.declared.limits.Limits.{Limits}
-use Rattle.frp_rows.specs.Writing.{ranked, usual}
+use Rattle.frp_graph.specs.declared.trace.Fact.{Fact}
+use Rattle.frp_graph.specs.declared.trace.Sent.{Sent}
+use Rattle.frp_rows.specs.Writing.{ranked, usual, sent_at}
 use Rattle.std.specs.Prelude.{ℕ, Some, None}
 use Rattle.frp_base.specs.Name.{made_name}
 use Rattle.frp_graph.specs.declared.prog.Body.{Body}
@@ -34,6 +36,7 @@ prog = record {
   codes = [];
   funs = [];
   templates = keeping ∷ [];
+  joins = [];
   body = record {
     param = None;
     kept = [];
@@ -77,6 +80,24 @@ evidence p = record {
   why = Full (item 2) 6;
 }
 
+-- Evidence that is not true, of place 2: with the fact of an execute, which is above the level; with both executes below the level,
+-- of which the second can make its instance, which is not born; and of the first execute, whose instance is born.
+abbrev pub with_facts : List Fact → Evidence
+with_facts facts = record (evidence 2) { last = record (evidence 2).last { fired = fires 0 (num 2) ∷ facts } }
+
+abbrev pub hasty_fact : Evidence
+hasty_fact = with_facts (fires 1 (num 2) ∷ [])
+
+abbrev pub skipped : Evidence
+skipped = record (with_facts (fires 1 (num 2) ∷ fires 2 (num 2) ∷ [])) { level = 2 }
+
+abbrev pub born_already : Evidence
+born_already = record (evidence 2) { why = Full (item 1) 6 }
+
+-- the sends of place 1, which was accepted, and of place 2
+abbrev pub two_sends : List Sent
+two_sends = sent_at 1 0 (num 1) ∷ sent_at 2 0 (num 2) ∷ []
+
 abbrev pub entries : List Entry
 entries = sends 0 (num 1) (Accepted 1)
     ∷ sends 0 (num 2) (Refused (no.Full (evidence 2)))
@@ -87,5 +108,5 @@ entries = sends 0 (num 1) (Accepted 1)
 abbrev pub listened : List Name
 listened = []
 
-abbrev pub script : List Fact
-script = fires 0 (num 1) ∷ fires 0 (num 2) ∷ fires 0 (num 3) ∷ []
+abbrev pub script : List Cmd
+script = send 0 (num 1) ∷ send 0 (num 2) ∷ send 0 (num 3) ∷ []

@@ -11,9 +11,10 @@ use Rattle.frp_graph.specs.declared.prog.Line3.TheVariants as line
 use Rattle.frp_graph.specs.declared.prog.LineShape.TheVariants as l
 use Rattle.frp_graph.specs.declared.shape.Shape.TheVariants as s
 use Rattle.frp_graph.specs.declared.trace.Moment.{Moment}
-use Rattle.frp_graph.specs.declared.history.Entry.{Entry}
-use Rattle.frp_graph.specs.declared.history.Reply.TheVariants.{Accepted}
-use Rattle.frp_rows.specs.Writing.{item, stream_of, cell_of, num, lit, stream, cell, fires, listens, sends, leaves, gave}
+use Rattle.frp_history.specs.declared.history.Cmd.{Cmd}
+use Rattle.frp_history.specs.declared.history.Entry.{Entry}
+use Rattle.frp_history.specs.declared.history.Reply.TheVariants.{Accepted}
+use Rattle.frp_rows.specs.Writing.{item, stream_of, cell_of, num, lit, stream, cell, fires, listens, send, sends, leaves, gave}
 use Rattle.std.specs.Prelude.{ℕ, Some, None}
 use Rattle.frp_base.specs.declared.name.Name.{Name}
 use Rattle.frp_base.specs.Name.{made_name}
@@ -32,6 +33,7 @@ prog = record {
   codes = [];
   funs = [];
   templates = holding ∷ getting ∷ [];
+  joins = [];
   body = record {
     param = None;
     kept = [];
@@ -98,5 +100,5 @@ entries = listens 2 1
 abbrev pub listened : List Name
 listened = item 2 ∷ item 5 ∷ []
 
-abbrev pub script : List Fact
-script = fires 0 (num 4) ∷ fires 0 (num 6) ∷ []
+abbrev pub script : List Cmd
+script = send 0 (num 4) ∷ send 0 (num 6) ∷ []

@@ -14,4 +14,15 @@ pub mod FullRoom
 pub mod EndlessSplit
 pub mod Takes
 pub mod Refusals
+pub mod Groups
+pub mod EmptyGroup
+pub mod Functions
+pub mod BuildTimes
+pub mod TooLarge
+pub mod InstanceCycle
+pub mod OlderCell
+pub mod Nested
+pub mod Optional
+pub mod Untyped
+pub mod Unsendable
 pub mod Readings

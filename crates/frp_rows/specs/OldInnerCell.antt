@@ -4,7 +4,6 @@
 -- (listen v) (sender (send k (pair v z)) (send k (pair m z)))
 use Rattle.std.specs.Prelude.{List, [], ◌∷◌}
 use Rattle.frp_base.specs.declared.name.Name.{Name}
-use Rattle.frp_graph.specs.declared.trace.Fact.{Fact}
 use Rattle.frp_base.specs.declared.ty.Ty.TheVariants as t
 use Rattle.frp_base.specs.declared.val.Val.TheVariants as v
 use Rattle.frp_expr.specs.declared.expr.Expr.TheVariants as ex
@@ -13,15 +12,16 @@ use Rattle.frp_graph.specs.declared.prog.Line3.TheVariants as line
 use Rattle.frp_graph.specs.declared.prog.LineShape.TheVariants as l
 use Rattle.frp_graph.specs.declared.shape.Shape.TheVariants as s
 use Rattle.frp_graph.specs.declared.trace.Moment.{Moment}
-use Rattle.frp_graph.specs.declared.history.Entry.{Entry}
-use Rattle.frp_graph.specs.declared.history.Reply.TheVariants.{Accepted}
-use Rattle.frp_rows.specs.Writing.{item, cell_of, num, lit, program, code, lam, stream, cell, fires, moment, listens, sends, leaves, gave}
+use Rattle.frp_history.specs.declared.history.Cmd.{Cmd}
+use Rattle.frp_history.specs.declared.history.Entry.{Entry}
+use Rattle.frp_history.specs.declared.history.Reply.TheVariants.{Accepted}
+use Rattle.frp_rows.specs.Writing.{item, cell_of, num, lit, program, code, lam, stream, cell, fires, moment, listens, send, sends, leaves, gave}
 use Rattle.frp_graph.specs.declared.evidence.Evidence.{Evidence}
-use Rattle.frp_graph.specs.Equations.{Sent}
+use Rattle.frp_graph.specs.declared.trace.Sent.{Sent}
 use Rattle.frp_graph.specs.declared.evidence.Phase.TheVariants.{During}
 use Rattle.frp_graph.specs.declared.evidence.Why.TheVariants.{Chain}
-use Rattle.frp_graph.specs.declared.history.Reply.TheVariants.{Refused}
-use Rattle.frp_graph.specs.declared.history.No.TheVariants.{Cyclic}
+use Rattle.frp_history.specs.declared.history.Reply.TheVariants.{Refused}
+use Rattle.frp_history.specs.declared.history.No.TheVariants.{Cyclic}
 use Rattle.frp_rows.specs.Writing.{ranked}
 
 abbrev pub prog : Prog
@@ -75,7 +75,7 @@ hasty = record {
 }
 
 abbrev pub first_send : Sent
-first_send = record { place = 3; sink = item 0; value = v.Pair (cell_of 9) (cell_of 1) }
+first_send = record { place = 3; part = 0; sink = item 0; value = v.Pair (cell_of 9) (cell_of 1) }
 
 -- Then the first switch would turn to the mapped cell, which depends on it.
 abbrev pub evidence : Evidence
@@ -100,5 +100,5 @@ entries = listens 4 1
 abbrev pub listened : List Name
 listened = item 4 ∷ item 9 ∷ []
 
-abbrev pub script : List Fact
-script = fires 0 (v.Pair (cell_of 9) (cell_of 1)) ∷ fires 0 (v.Pair (cell_of 5) (cell_of 1)) ∷ []
+abbrev pub script : List Cmd
+script = send 0 (v.Pair (cell_of 9) (cell_of 1)) ∷ send 0 (v.Pair (cell_of 5) (cell_of 1)) ∷ []

@@ -10,12 +10,12 @@ use Rattle.frp_graph.specs.declared.prog.LineShape.TheVariants as l
 use Rattle.frp_graph.specs.declared.shape.Shape.TheVariants as s
 use Rattle.frp_graph.specs.declared.trace.Moment.{Moment}
 use Rattle.frp_graph.specs.declared.limits.Limits.{Limits}
-use Rattle.frp_graph.specs.declared.history.Cmd.{Cmd}
-use Rattle.frp_graph.specs.declared.history.Cmd.TheVariants as cmd
-use Rattle.frp_graph.specs.declared.history.Reply.{Reply}
-use Rattle.frp_graph.specs.declared.history.Reply.TheVariants.{Refused, Joined, Left}
-use Rattle.frp_graph.specs.declared.history.No.TheVariants as no
-use Rattle.frp_graph.specs.declared.history.Entry.{Entry}
+use Rattle.frp_history.specs.declared.history.Cmd.{Cmd}
+use Rattle.frp_history.specs.declared.history.Cmd.TheVariants as cmd
+use Rattle.frp_history.specs.declared.history.Reply.{Reply}
+use Rattle.frp_history.specs.declared.history.Reply.TheVariants.{Refused, Joined, Left}
+use Rattle.frp_history.specs.declared.history.No.TheVariants as no
+use Rattle.frp_history.specs.declared.history.Entry.{Entry}
 use Rattle.frp_rows.specs.Writing.{item, num, lit, program, stream, cell, usual, key, gave}
 
 abbrev pub prog : Prog

@@ -3,7 +3,6 @@
 -- (sender (send a 1) (send k m) (send a 2))
 use Rattle.std.specs.Prelude.{List, [], ◌∷◌}
 use Rattle.frp_base.specs.declared.name.Name.{Name}
-use Rattle.frp_graph.specs.declared.trace.Fact.{Fact}
 use Rattle.frp_base.specs.declared.ty.Ty.TheVariants as t
 use Rattle.frp_expr.specs.declared.expr.Expr.TheVariants as ex
 use Rattle.frp_graph.specs.declared.prog.Prog.{Prog}
@@ -11,14 +10,15 @@ use Rattle.frp_graph.specs.declared.prog.Line3.TheVariants as line
 use Rattle.frp_graph.specs.declared.prog.LineShape.TheVariants as l
 use Rattle.frp_graph.specs.declared.shape.Shape.TheVariants as s
 use Rattle.frp_graph.specs.declared.trace.Moment.{Moment}
-use Rattle.frp_graph.specs.declared.history.Entry.{Entry}
-use Rattle.frp_graph.specs.declared.history.Reply.TheVariants.{Accepted}
-use Rattle.frp_rows.specs.Writing.{item, stream_of, num, lit, program, code, lam, stream, cell, fires, moment, listens, sends, leaves, gave}
+use Rattle.frp_history.specs.declared.history.Cmd.{Cmd}
+use Rattle.frp_history.specs.declared.history.Entry.{Entry}
+use Rattle.frp_history.specs.declared.history.Reply.TheVariants.{Accepted}
+use Rattle.frp_rows.specs.Writing.{item, stream_of, num, lit, program, code, lam, stream, cell, fires, moment, listens, send, sends, leaves, gave}
 use Rattle.frp_graph.specs.declared.evidence.Evidence.{Evidence}
 use Rattle.frp_graph.specs.declared.evidence.Phase.TheVariants.{After}
 use Rattle.frp_graph.specs.declared.evidence.Why.TheVariants.{Chain}
-use Rattle.frp_graph.specs.declared.history.Reply.TheVariants.{Refused}
-use Rattle.frp_graph.specs.declared.history.No.TheVariants as no
+use Rattle.frp_history.specs.declared.history.Reply.TheVariants.{Refused}
+use Rattle.frp_history.specs.declared.history.No.TheVariants as no
 use Rattle.frp_rows.specs.Writing.{ranked}
 
 abbrev pub prog : Prog
@@ -72,5 +72,5 @@ entries = listens 4 1
 abbrev pub listened : List Name
 listened = item 4 ∷ []
 
-abbrev pub script : List Fact
-script = fires 1 (num 1) ∷ fires 0 (stream_of 4) ∷ fires 1 (num 2) ∷ []
+abbrev pub script : List Cmd
+script = send 1 (num 1) ∷ send 0 (stream_of 4) ∷ send 1 (num 2) ∷ []

@@ -3,7 +3,6 @@
 -- (let c (hold p k)) (let w (switchs c))) (listen w) (sender (send a 1) (send a 2) (send a 3))
 use Rattle.std.specs.Prelude.{List, [], ◌∷◌}
 use Rattle.frp_base.specs.declared.name.Name.{Name}
-use Rattle.frp_graph.specs.declared.trace.Fact.{Fact}
 use Rattle.frp_base.specs.declared.ty.Ty.TheVariants as t
 use Rattle.frp_expr.specs.declared.expr.Expr.TheVariants as ex
 use Rattle.frp_graph.specs.declared.prog.Prog.{Prog}
@@ -11,9 +10,10 @@ use Rattle.frp_graph.specs.declared.prog.Line3.TheVariants as line
 use Rattle.frp_graph.specs.declared.prog.LineShape.TheVariants as l
 use Rattle.frp_graph.specs.declared.shape.Shape.TheVariants as s
 use Rattle.frp_graph.specs.declared.trace.Moment.{Moment}
-use Rattle.frp_graph.specs.declared.history.Entry.{Entry}
-use Rattle.frp_graph.specs.declared.history.Reply.TheVariants.{Accepted}
-use Rattle.frp_rows.specs.Writing.{item, stream_of, num, lit, program, code, lam, stream, cell, fires, moment, listens, sends, leaves, gave}
+use Rattle.frp_history.specs.declared.history.Cmd.{Cmd}
+use Rattle.frp_history.specs.declared.history.Entry.{Entry}
+use Rattle.frp_history.specs.declared.history.Reply.TheVariants.{Accepted}
+use Rattle.frp_rows.specs.Writing.{item, stream_of, num, lit, program, code, lam, stream, cell, fires, moment, listens, send, sends, leaves, gave}
 
 abbrev pub prog : Prog
 prog = program (ex.Add (ex.Var 0) (lit 100) ∷ ex.Add (ex.Var 0) (lit 200) ∷ ex.If (ex.Lt (ex.Var 2) (lit 2)) (ex.Var 0) (ex.Var 1) ∷ [])
@@ -62,5 +62,5 @@ entries = listens 5 1
 abbrev pub listened : List Name
 listened = item 5 ∷ []
 
-abbrev pub script : List Fact
-script = fires 0 (num 1) ∷ fires 0 (num 2) ∷ fires 0 (num 3) ∷ []
+abbrev pub script : List Cmd
+script = send 0 (num 1) ∷ send 0 (num 2) ∷ send 0 (num 3) ∷ []

@@ -17,14 +17,16 @@ use Rattle.frp_graph.specs.declared.shape.Shape.{Shape}
 use Rattle.frp_graph.specs.declared.trace.Node.{Node}
 use Rattle.frp_graph.specs.declared.trace.Fact.{Fact}
 use Rattle.frp_graph.specs.declared.trace.Moment.{Moment}
+use Rattle.frp_graph.specs.declared.trace.Sent.{Sent}
 use Rattle.frp_graph.specs.declared.evidence.Ranked.{Ranked}
 use Rattle.frp_graph.specs.declared.limits.Limits.{Limits}
-use Rattle.frp_graph.specs.declared.history.Key.{Key}
-use Rattle.frp_graph.specs.declared.history.Cmd.TheVariants as cmd
-use Rattle.frp_graph.specs.declared.history.Reply.{Reply}
-use Rattle.frp_graph.specs.declared.history.Reply.TheVariants as reply
-use Rattle.frp_graph.specs.declared.history.Delivered.{Delivered}
-use Rattle.frp_graph.specs.declared.history.Entry.{Entry}
+use Rattle.frp_history.specs.declared.history.Key.{Key}
+use Rattle.frp_history.specs.declared.history.Cmd.{Cmd}
+use Rattle.frp_history.specs.declared.history.Cmd.TheVariants as cmd
+use Rattle.frp_history.specs.declared.history.Reply.{Reply}
+use Rattle.frp_history.specs.declared.history.Reply.TheVariants as reply
+use Rattle.frp_history.specs.declared.history.Delivered.{Delivered}
+use Rattle.frp_history.specs.declared.history.Entry.{Entry}
 
 -- item k of the file, by its name, and a reference to it
 abbrev pub item : ℕ → Name
@@ -46,7 +48,7 @@ lit n = ex.Int (pos n)
 -- a program of these expressions and lines, without functions and templates
 abbrev pub program : List Expr → List Line3 → Prog
 program codes lines =
-    record { codes = codes; funs = []; templates = []; body = record { param = None; kept = []; lines = lines; give = None } }
+    record { codes = codes; funs = []; templates = []; body = record { param = None; kept = []; lines = lines; give = None }; joins = [] }
 
 -- an expression of the program, by its number, over these values of the body, by their positions; and with kept values
 abbrev pub code : ℕ → List ℕ → LineLam
@@ -74,6 +76,10 @@ moment u fired = record { time = u; born = []; fired = fired }
 abbrev pub ranked : ℕ → ℕ → Ranked
 ranked k rank = record { node = item k; rank = rank }
 
+-- what is sent to an item by the command at a place
+abbrev pub sent_at : ℕ → ℕ → Val → Sent
+sent_at place k v = record { place = place; part = 0; sink = item k; value = v }
+
 -- the limits of the program
 abbrev pub usual : Limits
 usual = record { moments = 4096; nodes = 65536; entries = 1000000; senders = 16; workers = 16; sends = 4096 }
@@ -87,8 +93,14 @@ key place = record { slot = place; place = place }
 abbrev pub listens : ℕ → ℕ → Entry
 listens k place = record { caller = 0; cmd = cmd.Join (item k); reply = reply.Joined (key place) }
 
+abbrev pub send : ℕ → Val → Cmd
+send k v = cmd.Send (item k) v
+
+abbrev pub sends_all : Cmd → Reply → Entry
+sends_all c r = record { caller = 1; cmd = c; reply = r }
+
 abbrev pub sends : ℕ → Val → Reply → Entry
-sends k v r = record { caller = 1; cmd = cmd.Send (item k) v; reply = r }
+sends k v r = sends_all (send k v) r
 
 abbrev pub leaves : ℕ → List Delivered → Entry
 leaves place items = record { caller = 0; cmd = cmd.Leave (key place); reply = reply.Left items }

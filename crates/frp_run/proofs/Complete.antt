@@ -1,11 +1,11 @@
 -- A text with a program is answered with its output, where nothing fails and memory is there.
-use Rattle.std.proofs.Common.{◌≡◌, ℕ, ◌+◌, ◌<◌, ◌≤◌, length, List, Option, Some, None, refl, sym, ap, ◌∙◌, subst, arith, inl, inr, length-append}
-use Rattle.std.specs.Prelude.{◌⊎◌, Ok, Err, IsSome}
+use Rattle.std.proofs.Common.{◌≡◌, ℕ, ◌+◌, ◌<◌, ◌≤◌, length, List, Option, Some, None, refl, ap, ◌∙◌, subst, arith, inl, inr, length-append}
+use Rattle.std.specs.Prelude.{◌⊎◌, Ok, Err}
 use Rattle.frp_io.specs.Outside.{Rose, Took}
 use Rattle.frp_graph.specs.Births.{size_of}
 use Rattle.frp_graph.specs.Limits.{program_limits}
 use Rattle.frp_run.specs.Texts.{Outcome, understood}
-use Rattle.frp_run.specs.Answers.{HasRead, IfRead, IsAnswer, IsAnswerOf, IsFaulty, IsUnbuilt, IsFull, HasProgram, refusal_status, status_of}
+use Rattle.frp_run.specs.Answers.{HasRead, IfRead, IsAnswer, IsFaulty, IsUnbuilt, IsFull, HasProgram, refusal_status, status_of}
 use Rattle.frp_run.specs.declared.modes.Mode.{Mode}
 use Rattle.frp_run.specs.declared.refused.Fault.{Fault}
 use Rattle.frp_run.specs.declared.refused.Refused.{Refused}

@@ -1,11 +1,10 @@
 -- What was understood can be run.
-use Rattle.std.proofs.Common.{◌≡◌, ℕ, ◌+◌, ◌*◌, ◌<◌, ◌≤◌, ◌^◌, suc, zero, Bool, true, false, List, [], ◌∷◌, ◌++◌, map, length, Option, Some, None, Result, Ok, Err, refl, sym, ap, ◌∙◌, subst, arith, length-append, zero-add}
+use Rattle.std.proofs.Common.{◌≡◌, ℕ, ◌+◌, ◌*◌, ◌<◌, ◌≤◌, ◌^◌, Bool, true, false, List, [], ◌∷◌, ◌++◌, map, length, Option, Some, Result, Ok, Err, refl, sym, ap, ◌∙◌, subst, arith, length-append, zero-add}
 use Rattle.std.specs.Prelude.{IfSome, if◌then◌else◌}
 use Rattle.std.specs.List.{AllByRecursion, list_all}
 use Rattle.std.proofs.lemmas.List.{length-map, length_push}
 use Rattle.std.proofs.lemmas.List.Folds.{list_all-append}
 use Rattle.frp_base.specs.declared.text.Text.{Text}
-use Rattle.frp_base.specs.declared.name.Name.{Name}
 use Rattle.frp_base.specs.declared.ty.Ty.{Ty}
 use Rattle.frp_base.specs.Name.{declared_name}
 use Rattle.frp_lex.specs.declared.token.Token.{Token}
@@ -14,27 +13,27 @@ use Rattle.frp_lex.proofs.Canonical.{lexed_is_lawful_lem}
 use Rattle.frp_expr.specs.Raw.{◌>>=◌ as ◌>>?◌}
 use Rattle.frp_expr.specs.Scope.{Named, place_of, number_of, names_of}
 use Rattle.frp_expr.proofs.Places.{places_within}
-use Rattle.frp_expr.proofs.Tests.{both_true, true_both}
-use Rattle.frp_graph.specs.declared.file.Decl.{Decl}
-use Rattle.frp_graph.specs.declared.file.Decl.TheVariants as d
-use Rattle.frp_graph.specs.declared.file.File.{File}
-use Rattle.frp_graph.specs.declared.file.ItemForm.{ItemForm}
-use Rattle.frp_graph.specs.declared.file.ItemForm.TheVariants.{Sink, Let, Tie, Cellsink, Get}
-use Rattle.frp_graph.specs.declared.file.ShapeForm.{ShapeForm}
-use Rattle.frp_graph.specs.declared.file.ShapeForm.TheVariants.{Never, Map, Filter, Hold}
-use Rattle.frp_graph.specs.declared.file.Listen.{Listen}
-use Rattle.frp_graph.specs.declared.file.RawSend.{RawSend}
-use Rattle.frp_graph.specs.declared.file.Sender.{Sender}
+use Rattle.frp_base.proofs.Booleans.{both_true, true_both}
+use Rattle.frp_file.specs.declared.file.Decl.{Decl}
+use Rattle.frp_file.specs.declared.file.Decl.TheVariants as d
+use Rattle.frp_file.specs.declared.file.File.{File}
+use Rattle.frp_file.specs.declared.file.ItemForm.{ItemForm}
+use Rattle.frp_file.specs.declared.file.ItemForm.TheVariants.{Sink, Let, Tie, Cellsink, Get}
+use Rattle.frp_file.specs.declared.file.ShapeForm.{ShapeForm}
+use Rattle.frp_file.specs.declared.file.ShapeForm.TheVariants.{Never, Map, Filter, Hold}
+use Rattle.frp_file.specs.declared.file.Listen.{Listen}
+use Rattle.frp_file.specs.declared.file.RawSend.{RawSend}
+use Rattle.frp_file.specs.declared.file.Sender.{Sender}
 use Rattle.frp_graph.specs.declared.trace.Fact.{Fact}
 use Rattle.frp_graph.specs.TypedProg.{IsTypedProg}
-use Rattle.frp_graph.specs.LawfulParts.{is_lawful_shape, is_lawful_item, is_lawful_decl, has_lawful_parts}
+use Rattle.frp_file.specs.LawfulParts.{is_lawful_shape, is_lawful_item, is_lawful_decl, has_lawful_parts}
 use Rattle.frp_form.specs.File.{file_of}
 use Rattle.frp_form.proofs.LawfulReading.{read_is_lawful_lem}
 use Rattle.frp_form.proofs.Counts.{listens_are_few_lem, one_sender_lem, sends_are_few_lem}
 use Rattle.frp_form.proofs.Lengths.{tokens_are_few_lem}
 use Rattle.frp_sugar.specs.Expanding.{expanded}
 use Rattle.frp_sugar.proofs.LawfulKept.{lawful_kept}
-use Rattle.frp_core.specs.Small.{is_built, is_built_shape, is_built_line, HasNode}
+use Rattle.frp_core.specs.Small.{is_built, is_built_shape, is_built_line}
 use Rattle.frp_type.specs.Core.{is_core, is_core_decl, is_core_item, is_core_shape}
 use Rattle.frp_type.specs.Faults.{all_tied, listened, scripted, checked}
 use Rattle.frp_type.specs.Known.{Known, nothing, named, declared, all_declared, item_known}
@@ -74,60 +73,6 @@ module _ (ties : List (ℕ × ℕ)) where
   lines_built k (d ∷ ds) h =
       let two = both_true _ _ h in
       list_all-append is_built_line (lines_of ties k d) (each (lines_of ties) (after k d) ds) ∙ true_both _ _ (decl_built k d two.0) (lines_built (after k d) ds two.1)
-
-  -- There is a line for each name.
-
-  one_more : (names : List Named) (n : Text) (x : Ty) → length (names ++ (n, x) ∷ []) ≡ length names + 1
-  one_more names n x = length_push names (n, x)
-
-  same_count : (k m : Known) → k ≡ m → length m.names ≡ length k.names
-  same_count k m e = ap (λ (j : Known). length j.names) (sym e)
-
-  item_lines_named : (k m : Known) (i : ItemForm) → item_known k i ≡ Ok m → length m.names ≡ length k.names + length (item_lines ties k i)
-  item_lines_named k m (Sink n ty) e = let p = sink_ok k m n ty e in let q : length m.names ≡ length k.names + 1 = sym (ap (λ (j : Known). length j.names) p.2) ∙ one_more k.names n.text _ in omega arith
-  item_lines_named k m (Let n shape) e = let p = let_ok k m n shape e in let q : length m.names ≡ length k.names + 1 = sym (ap (λ (j : Known). length j.names) p.2) ∙ one_more k.names n.text _ in omega arith
-  item_lines_named k m (Tie l x) e = let p = tie_known k m l x e in let q : length m.names ≡ length k.names = sym (ap (λ (j : Known). length j.names) p.2) in omega arith
-  item_lines_named k m (Cellsink s c ty o) e = let q = same_count k m cc in omega arith
-  item_lines_named k m (Get n c) e = let q = same_count k m cc in omega arith
-
-  decl_lines_named : (k m : Known) (d : Decl) → declared k d ≡ Ok m → length m.names ≡ length k.names + length (lines_of ties k d)
-  decl_lines_named k m (d.Function f) e = let p = fun_ok k m f e in let q : length m.names ≡ length k.names = sym (ap (λ (j : Known). length j.names) p.6) in omega arith
-  decl_lines_named k m (d.Item i) e = item_lines_named k m i.form e
-  decl_lines_named k m (d.Template t) e = let q = same_count k m cc in omega arith
-
-  pub lines_named : (k m : Known) (ds : List Decl) → all_declared k ds ≡ Ok m → length m.names ≡ length k.names + length (each (lines_of ties) k ds)
-  lines_named k m [] e = let q = same_count k m cc in omega arith
-  lines_named k m (d ∷ ds) e =
-      let p = step k m d ds e in
-      let here : length p.0.names ≡ length k.names + length (lines_of ties k d) = decl_lines_named k p.0 d p.1 in
-      let more : length m.names ≡ length p.0.names + length (each (lines_of ties) p.0 ds) = lines_named p.0 m ds p.2 in
-      let same : each (lines_of ties) (after k d) ds ≡ each (lines_of ties) p.0 ds = ap (λ j. each (lines_of ties) j ds) (after_is k p.0 d p.1) in
-      let both : length (lines_of ties k d ++ each (lines_of ties) (after k d) ds) ≡ length (lines_of ties k d) + length (each (lines_of ties) p.0 ds) =
-      length-append (lines_of ties k d) (each (lines_of ties) (after k d) ds) ∙ ap (λ ls. length (lines_of ties k d) + length ls) same in
-      omega arith
-
--- what is known after declarations without a fault
-pub known_is : (k m : Known) (ds : List Decl) → all_declared k ds ≡ Ok m → known_after k ds ≡ m
-known_is k m [] e = cc
-known_is k m (d ∷ ds) e = let p = step k m d ds e in ap (λ j. known_after j ds) (after_is k p.0 d p.1) ∙ known_is p.0 m ds p.2
-
--- A name that is known has a place among the names.
-
-place_within : (n : List ℕ) (names : List (List ℕ)) (i : ℕ) → place_of n names ≡ Some i → i < length names
-place_within n names i e = subst (λ (o : Option ℕ). IfSome o (λ j. j < length names)) e (places_within n names)
-
--- what is listened to is a node
-pub listens_found : (k : Known) (ls : List Listen) → listened k ls ≡ Ok tt → AllByRecursion (λ n. (i : ℕ) × ((i < length k.names) × (n ≡ declared_name i))) (map (λ l. node_named k l.name) ls)
-listens_found k [] e = tt
-listens_found k (l ∷ ls) e =
-    let p = bind_ok (named k l.name) (λ _. listened k ls) tt e in
-    let at : place_of l.name.text (names_of k.names) ≡ Some p.0 = right_ok _ _ _ _ p.1 in
-    ((p.0, (within p.0 at, ap declared_name (number_is p.0 at))), listens_found k ls p.2) where
-      within : (i : ℕ) → place_of l.name.text (names_of k.names) ≡ Some i → i < length k.names
-      within i at = let b : i < length (names_of k.names) = place_within l.name.text (names_of k.names) i at in let c : length (names_of k.names) ≡ length k.names = length-map k.names _ in omega arith
-
-      number_is : (i : ℕ) → place_of l.name.text (names_of k.names) ≡ Some i → number_of l.name.text (names_of k.names) ≡ i
-      number_is i at = rw at refl
 
 -- Steps that went well.
 
@@ -219,28 +164,6 @@ steps mode bytes u e =
       means = m.1.1.1;
     })
 
--- Without a fault, all is declared, and what is listened to is known.
-checked_parts : (core : File) (k : Known) → checked core ≡ Ok k → (all_declared nothing core.graph.decls ≡ Ok k) × (listened k core.listens ≡ Ok tt)
-checked_parts core k e =
-    let p = bind_ok (all_declared nothing core.graph.decls) (λ m. all_tied m.loops >>? λ _. listened m core.listens >>? λ _. scripted m core.senders >>? λ _. Ok m) k e in
-    let q = bind_ok (all_tied p.0.loops) (λ _. listened p.0 core.listens >>? λ _. scripted p.0 core.senders >>? λ _. Ok p.0) k p.2 in
-    let r = bind_ok (listened p.0 core.listens) (λ _. scripted p.0 core.senders >>? λ _. Ok p.0) k q.2 in
-    let s = bind_ok (scripted p.0 core.senders) (λ _. Ok p.0) k r.2 in
-    let same : p.0 ≡ k = ok_same s.2 in
-    (p.1 ∙ ap (λ (m : Known). Ok m) same, subst (λ (m : Known). listened m core.listens ≡ Ok tt) same r.1)
-
--- a node of a program is one of its lines
-node_of_line : (t : Typed) (core : File) (k : Known) → t ≡ meaning core → checked core ≡ Ok k → AllByRecursion (HasNode t.prog) t.listens
-node_of_line t core k e h =
-    let p = checked_parts core k h in
-    let known : known_after nothing core.graph.decls ≡ k = known_is nothing k core.graph.decls p.0 in
-    let count : length k.names ≡ 0 + length (each (lines_of (each ties_of nothing core.graph.decls)) nothing core.graph.decls) = lines_named _ nothing k core.graph.decls p.0 in
-    let lines : length k.names ≡ length (meaning core).prog.body.lines = count ∙ zero-add _ in
-    let found = listens_found k core.listens p.1 in
-    subst (λ (t : Typed). AllByRecursion (HasNode t.prog) t.listens) (sym e)
-    (subst (λ (m : Known). AllByRecursion (HasNode (meaning core).prog) (map (λ l. node_named m l.name) core.listens)) (sym known)
-    (subst (λ (n : ℕ). AllByRecursion (λ x. (i : ℕ) × ((i < n) × (x ≡ declared_name i))) (map (λ l. node_named k l.name) core.listens)) lines found))
-
 -- the first script has no more sends than the first sender
 few_sends : (g : RawSend → Fact) (ss : List Sender) → AllByRecursion (λ s. length s.sends ≤ 4096) ss → length (first_script (map (λ s. map g s.sends) ss)) ≤ 4096
 few_sends g [] h = omega arith
@@ -254,7 +177,6 @@ runnable mode bytes u small e =
     record {
       typed = subst (λ (t : Typed). IsTypedProg t.prog) (sym s.means) (faultless core s.known s.core s.faultless);
       built = subst (λ (t : Typed). is_built t.prog ≡ true) (sym s.means) (lines_built (each ties_of nothing core.graph.decls) nothing core.graph.decls s.built);
-      listens = node_of_line u.typed core s.known s.means s.faultless;
       one_script = λ replay.
           let one : length u.file.senders ≤ 1 = one_sender_lem (length bytes) (reading mode) s.ts u.file (ap (λ (m : Mode). (reading m).one_sender) replay) s.read in
           let scripts : length u.typed.scripts ≡ length u.file.senders = ap (λ (t : Typed). length t.scripts) s.means ∙ length-map core.senders _ in

@@ -1,11 +1,10 @@
 -- What each status says of the words, the input and what was written.
-use Rattle.std.proofs.Common.{◌≡◌, ℕ, ◌+◌, ◌<◌, ◌≤◌, List, Option, Some, None, refl, sym, ap, ◌∙◌, subst, arith, inl, inr}
+use Rattle.std.proofs.Common.{◌≡◌, ℕ, ◌≤◌, List, Option, Some, None, refl, subst, arith, inl, inr}
 use Rattle.std.specs.Prelude.{◌⊎◌, ◌^◌, IsSome}
 use Rattle.frp_io.specs.Outside.{Rose, Gave}
-use Rattle.frp_run.specs.Answers.{HasRead, IfRead, IsAnswer, IsAnswerOf, IsOutput, IsFaulty, IsUnbuilt, IsFull, IsRefusedAs, IsRefusedUnbuilt, GaveMore, refusal_status, status_of, text_of, line_of}
+use Rattle.frp_run.specs.Answers.{HasRead, IsAnswer, IsAnswerOf, IsOutput, IsFaulty, IsUnbuilt, IsFull, IsRefusedAs, IsRefusedUnbuilt, GaveMore, status_of, text_of, line_of}
 use Rattle.frp_run.specs.declared.modes.Mode.{Mode}
 use Rattle.frp_run.specs.declared.refused.Fault.{Fault}
-use Rattle.frp_run.specs.declared.answer.Refusal.{Refusal}
 use Rattle.frp_run.specs.declared.answer.Refusal.TheVariants as r
 use Rattle.frp_run.specs.declared.answer.Answer.{Answer}
 use Rattle.frp_run.specs.declared.answer.Answer.TheVariants as a

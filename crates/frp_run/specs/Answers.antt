@@ -1,19 +1,20 @@
 -- What the program answers: a status, and what it writes.
-use Rattle.std.specs.Prelude.{◌≡◌, ◌<◌, ◌≤◌, ◌^◌, ◌==◌, take, ℕ, Bool, true, false, List, [], ◌∷◌, Option, Some, None, Ok, Err, IsTrue, IsSome, codes, length, if◌then◌else◌, ⊤}
+use Rattle.std.specs.Prelude.{◌≡◌, ◌<◌, ◌≤◌, ◌^◌, ◌==◌, take, ℕ, List, [], ◌∷◌, Option, Some, None, Ok, Err, IsTrue, IsSome, codes, length, if◌then◌else◌, ⊤}
 use Rattle.std.specs.Str.{bytes_eq}
 use Rattle.frp_io.specs.Outside.{Rose, Took, Gave}
-use Rattle.frp_graph.specs.declared.file.File.{File}
+use Rattle.frp_file.specs.declared.file.File.{File}
 use Rattle.frp_graph.specs.declared.prog.Prog.{Prog}
 use Rattle.frp_graph.specs.declared.trace.Moment.{Moment}
 use Rattle.frp_graph.specs.declared.evidence.Evidence.{Evidence}
-use Rattle.frp_graph.specs.declared.history.Entry.{Entry}
+use Rattle.frp_history.specs.declared.history.Entry.{Entry}
 use Rattle.frp_graph.specs.Births.{size_of}
 use Rattle.frp_graph.specs.Limits.{program_limits}
 use Rattle.frp_graph.specs.TypedProg.{IsTypedProg}
-use Rattle.frp_graph.specs.Legal.{IsLegal, is_full, IsRefusedBuild}
-use Rattle.frp_graph.specs.Sessions.{IsSession}
+use Rattle.frp_history.specs.Legal.{IsLegal, is_full, IsRefusedBuild}
+use Rattle.frp_history.specs.Sessions.{IsSession}
 use Rattle.frp_report.specs.Report.{report_text}
 use Rattle.frp_type.specs.declared.typed.Typed.{Typed}
+use Rattle.frp_run.specs.Runs.{script_cmds}
 use Rattle.frp_run.specs.Texts.{understood}
 use Rattle.frp_run.specs.Lines.{fault_line, file_and_table}
 use Rattle.frp_run.specs.declared.modes.Mode.{Mode}
@@ -40,7 +41,7 @@ pub record IsReportOf (t : Typed) (text : List ℕ) : Type 0 where
   pub entries : List Entry
   pub trace : List Moment
   pub is_typed : IsTypedProg t.prog
-  pub is_session : IsSession t.listens t.scripts entries
+  pub is_session : IsSession t.listens (script_cmds t.scripts) entries
   pub is_legal : IsLegal t.prog program_limits entries trace
   pub is_report : text ≡ report_text entries trace
 

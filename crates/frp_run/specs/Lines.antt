@@ -1,5 +1,5 @@
 -- The lines that the program writes where it writes no output, and the table of names.
-use Rattle.std.specs.Prelude.{ℕ, List, [], ◌∷◌, ◌++◌, Option, Some, None, codes}
+use Rattle.std.specs.Prelude.{ℕ, List, [], ◌∷◌, ◌++◌, codes}
 use Rattle.std.specs.Fmt.{decimal}
 use Rattle.frp_base.specs.Name.{name_text}
 use Rattle.frp_base.specs.Ty.{ty_text}
@@ -10,7 +10,7 @@ use Rattle.frp_form.specs.declared.fault.FormKind.TheVariants as form
 use Rattle.frp_write.specs.Writing.{canonical}
 use Rattle.frp_expr.specs.declared.fault.TypeKind.{TypeKind}
 use Rattle.frp_expr.specs.declared.fault.TypeKind.TheVariants as type
-use Rattle.frp_graph.specs.declared.file.File.{File}
+use Rattle.frp_file.specs.declared.file.File.{File}
 use Rattle.frp_type.specs.declared.typed.Label.{Label}
 use Rattle.frp_run.specs.declared.refused.Fault.{Fault}
 use Rattle.frp_run.specs.declared.refused.Fault.TheVariants as f

@@ -3,13 +3,13 @@
 use Rattle.std.specs.Prelude.{ℕ, Bool, true, false, List, length, Result, Ok, Err, if◌then◌else◌}
 use Rattle.std.specs.List.{list_all}
 use Rattle.frp_lex.specs.Tokens.{tokens}
-use Rattle.frp_graph.specs.declared.file.File.{File}
-use Rattle.frp_graph.specs.declared.file.Decl.{Decl}
-use Rattle.frp_graph.specs.declared.file.Decl.TheVariants as d
-use Rattle.frp_graph.specs.declared.file.ItemForm.{ItemForm}
-use Rattle.frp_graph.specs.declared.file.ItemForm.TheVariants.{Sink, Let}
-use Rattle.frp_graph.specs.declared.file.ShapeForm.{ShapeForm}
-use Rattle.frp_graph.specs.declared.file.ShapeForm.TheVariants.{Never, Map, Filter, Hold}
+use Rattle.frp_file.specs.declared.file.File.{File}
+use Rattle.frp_file.specs.declared.file.Decl.{Decl}
+use Rattle.frp_file.specs.declared.file.Decl.TheVariants as d
+use Rattle.frp_file.specs.declared.file.ItemForm.{ItemForm}
+use Rattle.frp_file.specs.declared.file.ItemForm.TheVariants.{Sink, Let}
+use Rattle.frp_file.specs.declared.file.ShapeForm.{ShapeForm}
+use Rattle.frp_file.specs.declared.file.ShapeForm.TheVariants.{Never, Map, Filter, Hold}
 use Rattle.frp_form.specs.declared.reading.Reading.{Reading}
 use Rattle.frp_form.specs.File.{file_of}
 use Rattle.frp_sugar.specs.Expanding.{expanded}

@@ -4,7 +4,7 @@ ghost use Rattle.std.specs.Prelude.{◌≡◌, ◌≤◌, ◌^◌, [], IfOk, OnO
 ghost use Rattle.frp_graph.specs.declared.trace.Moment.{Moment};
 ghost use Rattle.frp_graph.specs.Limits.{program_limits};
 ghost use Rattle.frp_graph.specs.TypedProg.{IsTypedProg};
-ghost use Rattle.frp_graph.specs.Legal.{IsLegal};
+ghost use Rattle.frp_history.specs.Legal.{IsLegal};
 ghost use Rattle.frp_core.specs.Small.{is_built};
 ghost use Rattle.frp_run.specs.Answers.{mode_of, mode_word, IsOutputOf, IsOutputIn, IsReportOf, IsCheckOf, IsAnswer, IsAnswerOf, IsFaultyAs, refusal_status, refusal_line, status_of, text_of};
 ghost use Rattle.frp_run.specs.Runs.{IsRunnable, IsRunnableAs};
@@ -19,7 +19,8 @@ use crate::text::understand;
 use crate::understood::Understood;
 use frp_base::{Boxed, Memory, Text};
 use frp_core::Core;
-use frp_graph::{File, Limits, Prog};
+use frp_file::File;
+use frp_graph::{Limits, Prog};
 use frp_io::Source;
 use frp_report::report;
 use frp_type::Typed;
@@ -215,7 +216,7 @@ fn replayed(alloc: Global, typed: Boxed<Typed>) -> Result<Text, Memory>
         ..
     } = typed.into_inner();
     let core = run(alloc, prog, listens.as_slice(), scripts.as_slice())?;
-    report(alloc, core.entries.as_slice(), core.trace.as_slice())
+    report(alloc, core.entries(), core.trace())
 }
 
 /// The canonical text of a file and the table of its names, once its program is built.
@@ -236,8 +237,7 @@ fn build(alloc: Global, prog: Prog) -> Result<(), Memory>
     requires few { length prog.body.lines ≤ program_limits.nodes }
     ensures { OnOk result ((trace : List Moment) × IsLegal prog program_limits [] trace) }
 {
-    match Core::build(alloc, prog) {
-        Ok(_) => Ok(()),
-        Err(Memory) => Err(Memory),
-    }
+    let core = Core::build(alloc, prog)?;
+    let _trace = core.trace();
+    Ok(())
 }

@@ -1,5 +1,5 @@
 use frp_base::Boxed;
-use frp_graph::File;
+use frp_file::File;
 use frp_type::Typed;
 
 /// A text that has a program: its file, as it is written, and what the file means.

@@ -1,18 +1,18 @@
 -- An expanded file has no derived form, and a file without any stands for itself.
-use Rattle.std.proofs.Common.{◌≡◌, ℕ, ◌+◌, Bool, true, false, not, List, [], ◌∷◌, ◌++◌, map, refl, ◌∙◌}
+use Rattle.std.proofs.Common.{◌≡◌, ℕ, ◌+◌, Bool, true, false, List, [], ◌∷◌, ◌++◌, map, refl, ◌∙◌}
 use Rattle.std.specs.List.{list_all}
 use Rattle.std.proofs.lemmas.List.Folds.{list_all-append, list_all-map}
 use Rattle.frp_expr.specs.declared.raw.Spot.{Spot}
-use Rattle.frp_expr.proofs.Tests.{both_true, true_both}
-use Rattle.frp_graph.specs.declared.file.Decl.{Decl}
-use Rattle.frp_graph.specs.declared.file.Decl.TheVariants as d
-use Rattle.frp_graph.specs.declared.file.File.{File}
-use Rattle.frp_graph.specs.declared.file.Function.{Function}
-use Rattle.frp_graph.specs.declared.file.Item.{Item}
-use Rattle.frp_graph.specs.declared.file.ItemForm.{ItemForm}
-use Rattle.frp_graph.specs.declared.file.ItemForm.TheVariants.{Cellsink, Let}
-use Rattle.frp_graph.specs.declared.file.ShapeForm.{ShapeForm}
-use Rattle.frp_graph.specs.declared.file.ShapeForm.TheVariants.{Orelse, Gate, Once, Accum, Collect, Lift2, Defer}
+use Rattle.frp_base.proofs.Booleans.{both_true, true_both, not_true}
+use Rattle.frp_file.specs.declared.file.Decl.{Decl}
+use Rattle.frp_file.specs.declared.file.Decl.TheVariants as d
+use Rattle.frp_file.specs.declared.file.File.{File}
+use Rattle.frp_file.specs.declared.file.Function.{Function}
+use Rattle.frp_file.specs.declared.file.Item.{Item}
+use Rattle.frp_file.specs.declared.file.ItemForm.{ItemForm}
+use Rattle.frp_file.specs.declared.file.ItemForm.TheVariants.{Cellsink, Let}
+use Rattle.frp_file.specs.declared.file.ShapeForm.{ShapeForm}
+use Rattle.frp_file.specs.declared.file.ShapeForm.TheVariants.{Orelse, Gate, Once, Accum, Collect, Lift2, Defer}
 use Rattle.frp_sugar.specs.Made.{bound}
 use Rattle.frp_sugar.specs.Table.{let_items, shape_functions}
 use Rattle.frp_sugar.specs.Expanding.{form_items, form_functions, form_hidden, form_hidden_functions, body_items, body_functions, decl_decls, decl_hidden, decl_hidden_functions, graph_decls, expanded}
@@ -21,10 +21,6 @@ use Rattle.frp_sugar.specs.Derived.{is_derived, is_core_form, are_core_items, is
 -- two lists of which each passes a test
 appended : {A : Type 0} (p : A → Bool) (xs ys : List A) → list_all p xs ≡ true → list_all p ys ≡ true → list_all p (xs ++ ys) ≡ true
 appended p xs ys h k = list_all-append p xs ys ∙ true_both (list_all p xs) (list_all p ys) h k
-
-untrue : (a : Bool) → not a ≡ true → a ≡ false
-untrue true h = cc
-untrue false h = refl
 
 -- What stands for each is core.
 
@@ -85,12 +81,12 @@ no_functions p m (Lift2 y z ca cb e) h = cc
 no_functions p m _ h = refl
 
 kept_items : (at n m : ℕ) (f : ItemForm) → is_core_form f ≡ true → form_items at n m f ≡ record { at = at; form = f } ∷ []
-kept_items at n m (Let x s) h = kept_row at x s.at n m s.form (untrue (is_derived s.form) h)
+kept_items at n m (Let x s) h = kept_row at x s.at n m s.form (not_true (is_derived s.form) h)
 kept_items at n m (Cellsink s c ty o) h = cc
 kept_items at n m _ h = refl
 
 kept_functions : (m : ℕ) (f : ItemForm) → is_core_form f ≡ true → form_functions m f ≡ []
-kept_functions m (Let x s) h = no_functions s.at m s.form (untrue (is_derived s.form) h)
+kept_functions m (Let x s) h = no_functions s.at m s.form (not_true (is_derived s.form) h)
 kept_functions m _ h = refl
 
 kept_body : (n m : ℕ) (is : List Item) → are_core_items is ≡ true → body_items n m is ≡ is

@@ -10,17 +10,17 @@ use Rattle.frp_expr.specs.declared.raw.RawForm.TheOpen as o
 use Rattle.frp_expr.specs.declared.raw.RawForm.TheVariants as e
 use Rattle.frp_expr.specs.declared.raw.Spot.{Spot}
 use Rattle.frp_expr.specs.Raw.{is_lawful_step, is_lawful}
-use Rattle.frp_expr.proofs.Tests.{both_true, true_both}
-use Rattle.frp_graph.specs.declared.file.Decl.{Decl}
-use Rattle.frp_graph.specs.declared.file.Decl.TheVariants as d
-use Rattle.frp_graph.specs.declared.file.File.{File}
-use Rattle.frp_graph.specs.declared.file.Function.{Function}
-use Rattle.frp_graph.specs.declared.file.Item.{Item}
-use Rattle.frp_graph.specs.declared.file.ItemForm.{ItemForm}
-use Rattle.frp_graph.specs.declared.file.ItemForm.TheVariants.{Sink, Cellsink, Let, Tie, Get}
-use Rattle.frp_graph.specs.declared.file.ShapeForm.{ShapeForm}
-use Rattle.frp_graph.specs.declared.file.ShapeForm.TheVariants.{Orelse, Gate, Once, Accum, Collect, Lift2, Defer}
-use Rattle.frp_graph.specs.LawfulParts.{is_lawful_shape, is_lawful_item, is_lawful_decl, is_lawful_sender, has_lawful_parts}
+use Rattle.frp_base.proofs.Booleans.{both_true, true_both}
+use Rattle.frp_file.specs.declared.file.Decl.{Decl}
+use Rattle.frp_file.specs.declared.file.Decl.TheVariants as d
+use Rattle.frp_file.specs.declared.file.File.{File}
+use Rattle.frp_file.specs.declared.file.Function.{Function}
+use Rattle.frp_file.specs.declared.file.Item.{Item}
+use Rattle.frp_file.specs.declared.file.ItemForm.{ItemForm}
+use Rattle.frp_file.specs.declared.file.ItemForm.TheVariants.{Sink, Cellsink, Let, Tie, Get}
+use Rattle.frp_file.specs.declared.file.ShapeForm.{ShapeForm}
+use Rattle.frp_file.specs.declared.file.ShapeForm.TheVariants.{Orelse, Gate, Once, Accum, Collect, Lift2, Defer}
+use Rattle.frp_file.specs.LawfulParts.{is_lawful_shape, is_lawful_item, is_lawful_decl, is_lawful_sender, has_lawful_parts}
 use Rattle.frp_sugar.specs.Made.{spot, raw, name, bool, pair, first, second, list, close, u, v, w}
 use Rattle.frp_sugar.specs.Table.{let_items, shape_functions}
 use Rattle.frp_sugar.specs.Expanding.{form_items, form_functions, form_hidden, form_hidden_functions, body_items, body_functions, decl_decls, decl_hidden, decl_hidden_functions, graph_decls, expanded}

@@ -2,14 +2,14 @@
 -- counted on through it, from 0, and the hidden functions through the file. A hidden function stands just before the
 -- declaration of the graph that holds its form.
 use Rattle.std.specs.Prelude.{ℕ, ◌+◌, List, [], ◌∷◌, ◌++◌, map}
-use Rattle.frp_graph.specs.declared.file.Decl.{Decl}
-use Rattle.frp_graph.specs.declared.file.Decl.TheVariants as d
-use Rattle.frp_graph.specs.declared.file.File.{File}
-use Rattle.frp_graph.specs.declared.file.Function.{Function}
-use Rattle.frp_graph.specs.declared.file.Item.{Item}
-use Rattle.frp_graph.specs.declared.file.ItemForm.{ItemForm}
-use Rattle.frp_graph.specs.declared.file.ItemForm.TheVariants.{Sink, Cellsink, Let}
-use Rattle.frp_graph.specs.declared.file.ShapeForm.TheVariants.{Hold}
+use Rattle.frp_file.specs.declared.file.Decl.{Decl}
+use Rattle.frp_file.specs.declared.file.Decl.TheVariants as d
+use Rattle.frp_file.specs.declared.file.File.{File}
+use Rattle.frp_file.specs.declared.file.Function.{Function}
+use Rattle.frp_file.specs.declared.file.Item.{Item}
+use Rattle.frp_file.specs.declared.file.ItemForm.{ItemForm}
+use Rattle.frp_file.specs.declared.file.ItemForm.TheVariants.{Sink, Cellsink, Let}
+use Rattle.frp_file.specs.declared.file.ShapeForm.TheVariants.{Hold}
 use Rattle.frp_sugar.specs.Made.{name}
 use Rattle.frp_sugar.specs.Table.{let_items, shape_functions, shape_hidden, shape_hidden_functions}
 

@@ -1,7 +1,7 @@
 -- What the expansion of a file keeps: the limits of its expressions, what is listened to, and the senders.
 use Rattle.std.specs.Prelude.{◌≡◌, IsTrue}
-use Rattle.frp_graph.specs.declared.file.File.{File}
-use Rattle.frp_graph.specs.LawfulParts.{has_lawful_parts}
+use Rattle.frp_file.specs.declared.file.File.{File}
+use Rattle.frp_file.specs.LawfulParts.{has_lawful_parts}
 use Rattle.frp_sugar.specs.Expanding.{expanded}
 
 -- the core file of a file with lawful expressions has lawful expressions

@@ -1,6 +1,6 @@
 -- What the expansion of a file keeps.
 use Rattle.std.specs.Prelude.{◌≡◌, IsTrue}
-use Rattle.frp_graph.specs.declared.file.File.{File}
+use Rattle.frp_file.specs.declared.file.File.{File}
 use Rattle.frp_sugar.specs.Derived.{is_core_file}
 use Rattle.frp_sugar.specs.Expanding.{expanded}
 

@@ -6,9 +6,9 @@ use Rattle.frp_expr.specs.declared.raw.Raw.{Raw, roll-Raw}
 use Rattle.frp_expr.specs.declared.raw.RawForm.{RawForm}
 use Rattle.frp_expr.specs.declared.raw.RawForm.TheVariants as e
 use Rattle.frp_expr.specs.declared.raw.Spot.{Spot}
-use Rattle.frp_graph.specs.declared.file.Item.{Item}
-use Rattle.frp_graph.specs.declared.file.ItemForm.TheVariants as i
-use Rattle.frp_graph.specs.declared.file.ShapeForm.{ShapeForm}
+use Rattle.frp_file.specs.declared.file.Item.{Item}
+use Rattle.frp_file.specs.declared.file.ItemForm.TheVariants as i
+use Rattle.frp_file.specs.declared.file.ShapeForm.{ShapeForm}
 
 -- the names of a body's hidden items, and of the file's hidden functions
 abbrev pub hidden_item : ℕ → Text

@@ -1,8 +1,8 @@
 -- Shapes that several rows of the table have, at p.
 use Rattle.std.specs.Prelude.{ℕ}
 use Rattle.frp_expr.specs.declared.raw.Raw.{Raw}
-use Rattle.frp_graph.specs.declared.file.ShapeForm.{ShapeForm}
-use Rattle.frp_graph.specs.declared.file.ShapeForm.TheVariants.{Map, Filter, Snapshot}
+use Rattle.frp_file.specs.declared.file.ShapeForm.{ShapeForm}
+use Rattle.frp_file.specs.declared.file.ShapeForm.TheVariants.{Map, Filter, Snapshot}
 use Rattle.frp_sugar.specs.Made.{name, pair, first, second, u, v, w}
 
 module _ (p : ℕ) where

@@ -2,10 +2,10 @@
 use Rattle.std.specs.Prelude.{ℕ, ◌+◌, true, false, List, [], ◌∷◌}
 use Rattle.frp_expr.specs.declared.raw.Raw.{Raw}
 use Rattle.frp_expr.specs.declared.raw.Spot.{Spot}
-use Rattle.frp_graph.specs.declared.file.Function.{Function}
-use Rattle.frp_graph.specs.declared.file.Item.{Item}
-use Rattle.frp_graph.specs.declared.file.ShapeForm.{ShapeForm}
-use Rattle.frp_graph.specs.declared.file.ShapeForm.TheVariants.{Map, Mapc, Filter, Merge, Snapshot, Split, Loopc, Hold, Apply, Orelse, Gate, Once, Accum, Collect, Lift2, Defer}
+use Rattle.frp_file.specs.declared.file.Function.{Function}
+use Rattle.frp_file.specs.declared.file.Item.{Item}
+use Rattle.frp_file.specs.declared.file.ShapeForm.{ShapeForm}
+use Rattle.frp_file.specs.declared.file.ShapeForm.TheVariants.{Map, Mapc, Filter, Merge, Snapshot, Split, Loopc, Hold, Apply, Orelse, Gate, Once, Accum, Collect, Lift2, Defer}
 use Rattle.frp_sugar.specs.Made.{hidden_item, hidden_function, spot, name, bool, pair, first, second, list, close, u, v, w, bound, tied}
 
 -- The items that stand for `(let x FORM)`. The item stands at a place `at` and the form at p. The next hidden item of the body

@@ -1,16 +1,13 @@
 //! The expansion of files, declarations and bodies.
 
 ghost use Rattle.std.specs.Prelude.{◌≡◌, ◌+◌, ◌++◌, map, IfOk, OnOk};
-ghost use Rattle.frp_graph.specs.declared.file.Decl.TheVariants as decl;
+ghost use Rattle.frp_file.specs.declared.file.Decl.TheVariants as decl;
 ghost use Rattle.frp_sugar.specs.Expanding as spec;
 
-use crate::copies::{
-    all_listens, all_params, all_senders, copied_function, copied_give, copied_param, copied_spot,
-};
 use crate::items::item;
 use crate::site::Next;
 use frp_base::{Memory, Seq};
-use frp_graph::{Decl, File, Graph, Item, Template};
+use frp_file::{Decl, File, Graph, Item, Template, copy_listens, copy_params, copy_senders};
 use std::alloc::Global;
 
 /// The core file that a file stands for: core items stand in the place of each derived form.
@@ -18,8 +15,8 @@ pub fn expand(alloc: Global, file: &File) -> Result<File, Memory>
     ensures { IfOk result (λ f. f ≡ spec.expanded file.now) }
 {
     let decls = expanded_decls(alloc, file.graph.decls.as_slice())?;
-    let listens = all_listens(alloc, file.listens.as_slice())?;
-    let senders = all_senders(alloc, file.senders.as_slice())?;
+    let listens = copy_listens(alloc, file.listens.as_slice())?;
+    let senders = copy_senders(alloc, file.senders.as_slice())?;
     Ok(File {
         graph: Graph {
             at: file.graph.at,
@@ -53,7 +50,7 @@ fn decl(alloc: Global, d: &Decl, next: &mut Next, out: &mut Seq<Decl>) -> Result
 {
     match d {
         Decl::Template(t) => template(alloc, t, next, out),
-        Decl::Function(f) => out.add(Decl::Function(copied_function(alloc, f)?)),
+        Decl::Function(f) => out.add(Decl::Function(f.copy(alloc)?)),
         Decl::Item(i) => graph_item(alloc, i, next, out),
     }
 }
@@ -86,10 +83,10 @@ fn template(alloc: Global, t: &Template, next: &mut Next, out: &mut Seq<Decl>) -
     ensures functions { OnOk result (next.new.functions ≡ next.old.functions + spec.body_hidden_functions t.now.items) }
 {
     let items = body(alloc, t.items.as_slice(), &mut next.functions, out)?;
-    let name = copied_spot(&t.name)?;
-    let param = copied_param(alloc, t.param.get())?;
-    let kept = all_params(alloc, t.kept.as_slice())?;
-    let give = copied_give(alloc, t.give.get())?;
+    let name = t.name.copy()?;
+    let param = t.param.get().boxed(alloc)?;
+    let kept = copy_params(alloc, t.kept.as_slice())?;
+    let give = t.give.get().boxed(alloc)?;
     out.add(Decl::Template(Template {
         at: t.at,
         name,

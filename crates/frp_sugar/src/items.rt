@@ -1,20 +1,19 @@
 //! The expansion of items.
 
-ghost use Rattle.std.specs.Prelude.{◌≡◌, ◌+◌, [], ◌∷◌, ◌++◌, map, not, IsTrue, IfOk, OnOk};
-ghost use Rattle.frp_graph.specs.declared.file.Decl.TheVariants as decl;
-ghost use Rattle.frp_graph.specs.declared.file.ItemForm.TheVariants as form;
+ghost use Rattle.std.specs.Prelude.{◌≡◌, ◌+◌, [], ◌∷◌, ◌++◌, map, IsTrue, IfOk, OnOk};
+ghost use Rattle.frp_file.specs.declared.file.Decl.TheVariants as decl;
+ghost use Rattle.frp_file.specs.declared.file.ItemForm.TheVariants as form;
 ghost use Rattle.frp_sugar.specs.Derived.{is_derived};
 ghost use Rattle.frp_sugar.specs.Table as table;
 ghost use Rattle.frp_sugar.specs.Expanding as spec;
 
-use crate::copies::{copied, copied_spot, copied_ty};
 use crate::made::the;
 use crate::rows::{Lift, Step, accum, collect, defer, gate, lift2, lifted, once, orelse};
-use crate::shapes::{copied_shape, is_derived};
+use crate::shapes::is_derived;
 use crate::site::{Next, Site};
 use frp_base::{Boxed, Memory, Seq};
 use frp_expr::{Raw, RawTy, Spot};
-use frp_graph::{Decl, Item, ItemForm, RawShape, ShapeForm};
+use frp_file::{Decl, Item, ItemForm, RawShape, ShapeForm};
 use std::alloc::Global;
 
 /// Adds what stands for an item, and its hidden functions to the declarations.
@@ -54,8 +53,8 @@ fn sink(
 ) -> Result<(), Memory>
     ensures { OnOk result (items.new ≡ items.old ++ record { at = at; form = form.Sink name.now ty.now } ∷ []) }
 {
-    let name = copied_spot(name)?;
-    let ty = copied_ty(alloc, ty)?;
+    let name = name.copy()?;
+    let ty = ty.boxed(alloc)?;
     items.add(Item {
         at,
         form: ItemForm::Sink { name, ty },
@@ -66,8 +65,8 @@ fn sink(
 fn tie(at: u64, from: &Spot, to: &Spot, items: &mut Seq<Item>) -> Result<(), Memory>
     ensures { OnOk result (items.new ≡ items.old ++ record { at = at; form = form.Tie from.now to.now } ∷ []) }
 {
-    let from = copied_spot(from)?;
-    let to = copied_spot(to)?;
+    let from = from.copy()?;
+    let to = to.copy()?;
     items.add(Item {
         at,
         form: ItemForm::Tie { from, to },
@@ -78,8 +77,8 @@ fn tie(at: u64, from: &Spot, to: &Spot, items: &mut Seq<Item>) -> Result<(), Mem
 fn get(alloc: Global, at: u64, name: &Spot, cell: &Raw, items: &mut Seq<Item>) -> Result<(), Memory>
     ensures { OnOk result (items.new ≡ items.old ++ record { at = at; form = form.Get name.now cell.now } ∷ []) }
 {
-    let name = copied_spot(name)?;
-    let cell = copied(alloc, cell)?;
+    let name = name.copy()?;
+    let cell = cell.boxed(alloc)?;
     items.add(Item {
         at,
         form: ItemForm::Get { name, cell },
@@ -99,8 +98,8 @@ fn cellsink(
     ensures { OnOk result (items.new ≡ items.old ++ spec.form_items at 0 0 (form.Cellsink input.now cell.now ty.now o.now)) }
 {
     sink(alloc, at, input, ty, items)?;
-    let name = copied_spot(cell)?;
-    let o = copied(alloc, o)?;
+    let name = cell.copy()?;
+    let o = o.boxed(alloc)?;
     let s = the(alloc, at, input)?;
     let form = ShapeForm::Hold { o, s };
     let shape = Boxed::new(alloc, RawShape { at, form })?;
@@ -301,11 +300,10 @@ fn core(
     shape: &RawShape,
     items: &mut Seq<Item>,
 ) -> Result<(), Memory>
-    requires { IsTrue (not (is_derived shape.now.form)) }
     ensures { OnOk result (items.new ≡ items.old ++ record { at = at; form = form.Let x.now shape.now } ∷ []) }
 {
-    let name = copied_spot(x)?;
-    let shape = copied_shape(alloc, shape)?;
+    let name = x.copy()?;
+    let shape = shape.boxed(alloc)?;
     items.add(Item {
         at,
         form: ItemForm::Let { name, shape },

@@ -1,7 +1,6 @@
 //! Derived forms: the core file that a file stands for.
 #![tactic(auto)]
 
-mod copies;
 mod expanding;
 mod items;
 mod lawful_law;

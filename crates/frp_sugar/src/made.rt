@@ -2,12 +2,19 @@
 
 ghost use Rattle.std.specs.Prelude.{◌≡◌, ◌+◌, ◌++◌, IfOk};
 ghost use Rattle.std.specs.Fmt.{decimal};
+ghost use Rattle.frp_expr.specs.declared.raw.Raw.{roll-Raw};
 ghost use Rattle.frp_sugar.specs.Made as spec;
 
-use crate::copies::raw_at;
 use frp_base::{Boxed, Memory, Seq, Text};
 use frp_expr::{Raw, RawForm, Spot};
 use std::alloc::Global;
+
+/// A written expression at its place.
+fn raw_at(alloc: Global, at: u64, form: RawForm) -> Result<Boxed<Raw>, Memory>
+    ensures { IfOk result (λ r. r ≡ roll-Raw (record { at = at; form = form })) }
+{
+    Boxed::new(alloc, Raw { at, form })
+}
 
 /// A text of these characters.
 fn text(alloc: Global, chars: &str) -> Result<Text, Memory>

@@ -1,20 +1,19 @@
 //! The core items of each derived form: a function for each row of the table.
 
 ghost use Rattle.std.specs.Prelude.{◌≡◌, ◌+◌, [], ◌∷◌, ◌++◌, false, true, map, IfOk, OnOk};
-ghost use Rattle.frp_graph.specs.declared.file.Decl.TheVariants as decl;
-ghost use Rattle.frp_graph.specs.declared.file.ShapeForm.TheVariants as shape;
+ghost use Rattle.frp_file.specs.declared.file.Decl.TheVariants as decl;
+ghost use Rattle.frp_file.specs.declared.file.ShapeForm.TheVariants as shape;
 ghost use Rattle.frp_sugar.specs.Made as made;
 ghost use Rattle.frp_sugar.specs.Shapes as spec;
 ghost use Rattle.frp_sugar.specs.Table.{let_items, shape_functions};
 
-use crate::copies::{copied, copied_param, copied_spot, copied_ty};
 use crate::made::{
     bool, close, first, hidden_function, hidden_item, list, moved, pair, second, the, variable,
 };
 use crate::site::Site;
 use frp_base::{Boxed, Memory, Seq};
 use frp_expr::{Raw, RawTy, Spot};
-use frp_graph::{Decl, Function, Item, ItemForm, Param, RawShape, ShapeForm};
+use frp_file::{Decl, Function, Item, ItemForm, Param, RawShape, ShapeForm};
 use std::alloc::Global;
 
 /// The name of the form's first hidden item, or of the one so many after it.
@@ -130,7 +129,7 @@ fn seconds(
 fn loopc(alloc: Global, k: Site, name: Spot, ty: &RawTy, out: &mut Seq<Item>) -> Result<(), Memory>
     ensures { OnOk result (out.new ≡ out.old ++ made.bound k.item k.form name (shape.Loopc ty.now) ∷ []) }
 {
-    let ty = copied_ty(alloc, ty)?;
+    let ty = ty.boxed(alloc)?;
     let form = ShapeForm::Loopc { ty };
     bind(alloc, k, name, form, out)
 }
@@ -163,11 +162,11 @@ pub struct Step<'a> {
 fn steps(alloc: Global, k: Site, name: Spot, step: &Step, out: &mut Seq<Item>) -> Result<(), Memory>
     ensures { OnOk result (out.new ≡ out.old ++ made.bound k.item k.form name (shape.Snapshot step.now.x.now step.now.y.now step.now.s.now (made.name k.form (made.hidden_item k.items)) step.now.e.now) ∷ []) }
 {
-    let x = copied_spot(step.x)?;
-    let y = copied_spot(step.y)?;
-    let s = copied(alloc, step.s)?;
+    let x = step.x.copy()?;
+    let y = step.y.copy()?;
+    let s = step.s.boxed(alloc)?;
     let c = the_hidden(alloc, k, 0)?;
-    let e = copied(alloc, step.e)?;
+    let e = step.e.boxed(alloc)?;
     let form = ShapeForm::Snapshot { x, y, s, c, e };
     bind(alloc, k, name, form, out)
 }
@@ -185,10 +184,10 @@ pub fn orelse(
 {
     let u = variable(alloc, k.form, "%u")?;
     let v = variable(alloc, k.form, "%v")?;
-    let a = copied(alloc, a)?;
-    let b = copied(alloc, b)?;
+    let a = a.boxed(alloc)?;
+    let b = b.boxed(alloc)?;
     let e = the(alloc, k.form, &u)?;
-    let name = copied_spot(x)?;
+    let name = x.copy()?;
     let form = ShapeForm::Merge {
         x: u,
         y: v,
@@ -212,9 +211,9 @@ fn gated(
 ) -> Result<(), Memory>
     ensures { OnOk result (out.new ≡ out.old ++ made.bound k.item k.form a.now (spec.pairs k.form s c) ∷ made.bound k.item k.form b.now (spec.passing k.form (made.name k.form a.now.text)) ∷ made.bound k.item k.form x.now (spec.firsts k.form (made.name k.form b.now.text)) ∷ []) }
 {
-    pairs(alloc, k, copied_spot(a)?, s, c, out)?;
-    passing(alloc, k, copied_spot(b)?, the(alloc, k.form, a)?, out)?;
-    firsts(alloc, k, copied_spot(x)?, the(alloc, k.form, b)?, out)
+    pairs(alloc, k, a.copy()?, s, c, out)?;
+    passing(alloc, k, b.copy()?, the(alloc, k.form, a)?, out)?;
+    firsts(alloc, k, x.copy()?, the(alloc, k.form, b)?, out)
 }
 
 /// `(gate s c)`: what s gives while c is true.
@@ -228,8 +227,8 @@ pub fn gate(
 ) -> Result<(), Memory>
     ensures { OnOk result (out.new ≡ out.old ++ let_items k.item x.now k.form k.items k.functions (shape.Gate s.now c.now)) }
 {
-    let s = copied(alloc, s)?;
-    let c = copied(alloc, c)?;
+    let s = s.boxed(alloc)?;
+    let c = c.boxed(alloc)?;
     let a = hidden(alloc, k, 0)?;
     let b = hidden(alloc, k, 1)?;
     gated(alloc, k, x, &a, &b, s, c, out)
@@ -240,7 +239,7 @@ fn falses(alloc: Global, k: Site, name: Spot, s: &Raw, out: &mut Seq<Item>) -> R
     ensures { OnOk result (out.new ≡ out.old ++ made.bound k.item k.form name (shape.Map (made.u k.form) s.now (made.bool k.form false)) ∷ []) }
 {
     let x = variable(alloc, k.form, "%u")?;
-    let s = copied(alloc, s)?;
+    let s = s.boxed(alloc)?;
     let e = bool(alloc, k.form, false)?;
     let form = ShapeForm::Map { x, s, e };
     bind(alloc, k, name, form, out)
@@ -262,7 +261,7 @@ pub fn once(alloc: Global, k: Site, x: &Spot, s: &Raw, out: &mut Seq<Item>) -> R
     ensures { OnOk result (out.new ≡ out.old ++ let_items k.item x.now k.form k.items k.functions (shape.Once s.now)) }
 {
     unused(alloc, k, s, out)?;
-    let s = copied(alloc, s)?;
+    let s = s.boxed(alloc)?;
     let c = the_hidden(alloc, k, 1)?;
     let a = hidden(alloc, k, 2)?;
     let b = hidden(alloc, k, 3)?;
@@ -295,7 +294,7 @@ fn states(alloc: Global, k: Site, o: &Raw, out: &mut Seq<Item>) -> Result<(), Me
         out,
     )?;
     let name = hidden(alloc, k, 3)?;
-    let o = copied(alloc, o)?;
+    let o = o.boxed(alloc)?;
     let s = the_hidden(alloc, k, 2)?;
     hold(alloc, k, name, o, s, out)
 }
@@ -316,8 +315,8 @@ pub fn accum(
     hold(
         alloc,
         k,
-        copied_spot(x)?,
-        copied(alloc, o)?,
+        x.copy()?,
+        o.boxed(alloc)?,
         the_hidden(alloc, k, 1)?,
         out,
     )?;
@@ -338,7 +337,7 @@ pub fn collect(
 {
     stepped(alloc, k, ty, step, out)?;
     states(alloc, k, o, out)?;
-    firsts(alloc, k, copied_spot(x)?, the_hidden(alloc, k, 1)?, out)?;
+    firsts(alloc, k, x.copy()?, the_hidden(alloc, k, 1)?, out)?;
     let state = hidden(alloc, k, 3)?;
     tie(k, hidden(alloc, k, 0)?, &state, out)
 }
@@ -356,8 +355,8 @@ fn closures(
 {
     let function = hidden_function(alloc, k.form, k.functions)?;
     let e = close(alloc, k.form, function, y)?;
-    let x = copied_spot(y)?;
-    let c = copied(alloc, ca)?;
+    let x = y.copy()?;
+    let c = ca.boxed(alloc)?;
     let form = ShapeForm::Mapc { x, c, e };
     bind(alloc, k, name, form, out)
 }
@@ -383,9 +382,9 @@ pub fn lift2(
     ensures { OnOk result (out.new ≡ out.old ++ let_items k.item x.now k.form k.items k.functions (shape.Lift2 lift.now.x.now lift.now.y.now lift.now.ca.now lift.now.cb.now lift.now.e.now)) }
 {
     closures(alloc, k, hidden(alloc, k, 0)?, &lift.x.name, lift.ca, out)?;
-    let name = copied_spot(x)?;
+    let name = x.copy()?;
     let cf = the_hidden(alloc, k, 0)?;
-    let ca = copied(alloc, lift.cb)?;
+    let ca = lift.cb.boxed(alloc)?;
     let form = ShapeForm::Apply { cf, ca };
     bind(alloc, k, name, form, out)
 }
@@ -396,10 +395,10 @@ pub fn lifted(alloc: Global, k: Site, lift: &Lift, out: &mut Seq<Decl>) -> Resul
 {
     let name = hidden_function(alloc, k.form, k.functions)?;
     let mut kept = Seq::new(alloc);
-    let x = copied_param(alloc, lift.x)?;
+    let x = lift.x.boxed(alloc)?;
     kept.add(x.into_inner())?;
-    let y = copied_param(alloc, lift.y)?;
-    let e = copied(alloc, lift.e)?;
+    let y = lift.y.boxed(alloc)?;
+    let e = lift.e.boxed(alloc)?;
     out.add(Decl::Function(Function {
         at: k.form,
         name,
@@ -415,11 +414,11 @@ pub fn defer(alloc: Global, k: Site, x: &Spot, s: &Raw, out: &mut Seq<Item>) -> 
 {
     let name = hidden(alloc, k, 0)?;
     let u = variable(alloc, k.form, "%u")?;
-    let s = copied(alloc, s)?;
+    let s = s.boxed(alloc)?;
     let e = list(alloc, k.form, &u)?;
     let form = ShapeForm::Map { x: u, s, e };
     bind(alloc, k, name, form, out)?;
-    let name = copied_spot(x)?;
+    let name = x.copy()?;
     let s = the_hidden(alloc, k, 0)?;
     bind(alloc, k, name, ShapeForm::Split { s }, out)
 }

@@ -1,6 +1,6 @@
 use frp_base::{Boxed, Memory, Seq, Text};
 use frp_expr::{Raw, RawForm, RawTy, Spot, TyForm, TypeFault, TypeKind};
-use frp_graph::{Decl, File, Graph, Item, ItemForm, Listen, RawShape, ShapeForm};
+use frp_file::{Decl, File, Graph, Item, ItemForm, Listen, RawShape, ShapeForm};
 use frp_type::{CheckStop, check, faultless_is_typed, is_core};
 use std::alloc::Global;
 

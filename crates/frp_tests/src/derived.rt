@@ -1,6 +1,6 @@
 use crate::texts::read_text;
 use frp_base::{Memory, Text};
-use frp_graph::File;
+use frp_file::File;
 use frp_sugar::{core_stays, expand, expanded_is_core, expanded_is_lawful, senders_stay};
 use frp_type::{Label, check, is_core};
 use frp_write::write;

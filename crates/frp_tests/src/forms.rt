@@ -1,9 +1,9 @@
 use crate::texts::read_text;
+use frp_file::{Decl, ItemForm};
 use frp_form::{
     FormFault, FormKind, FormStop, grammar_is_read, listens_are_few, parts_are_lawful,
     read_is_grammar, tokens_are_few,
 };
-use frp_graph::{Decl, ItemForm};
 use std::test::Fail;
 
 /// The place of a declaration, and the first letter of its head word.

@@ -8,6 +8,10 @@ mod derived;
 #[cfg(test)]
 mod forms;
 #[cfg(test)]
+mod graphs;
+#[cfg(test)]
+mod histories;
+#[cfg(test)]
 mod program;
 #[cfg(test)]
 mod texts;

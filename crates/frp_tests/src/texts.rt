@@ -1,5 +1,5 @@
+use frp_file::File;
 use frp_form::{FormStop, Reading, read};
-use frp_graph::File;
 use frp_lex::{LexStop, lex};
 use std::alloc::Global;
 

@@ -1,7 +1,7 @@
 use crate::texts::read_text;
 use frp_base::{Memory, Seq, Text};
 use frp_expr::Spot;
-use frp_graph::{File, Graph, Listen};
+use frp_file::{File, Graph, Listen};
 use frp_write::{
     canonical_is_read, canonical_tells, is_lawful_file, read_is_lawful, write, written_is_read,
 };

@@ -3,13 +3,13 @@ use Rattle.std.proofs.Common.{◌≡◌, ℕ, true, List, [], ◌∷◌, ◌++�
 use Rattle.std.proofs.lemmas.List.{map-append}
 use Rattle.frp_base.specs.declared.name.Name.{Name}
 use Rattle.frp_expr.specs.Raw.{Outcome, ◌>>=◌}
-use Rattle.frp_graph.specs.declared.file.Decl.{Decl}
-use Rattle.frp_graph.specs.declared.file.Decl.TheVariants as d
-use Rattle.frp_graph.specs.declared.file.File.{File}
-use Rattle.frp_graph.specs.declared.file.ItemForm.{ItemForm}
-use Rattle.frp_graph.specs.declared.file.ItemForm.TheVariants.{Sink, Let}
-use Rattle.frp_graph.specs.declared.file.ShapeForm.{ShapeForm}
-use Rattle.frp_graph.specs.declared.file.ShapeForm.TheVariants.{Loops, Loopc}
+use Rattle.frp_file.specs.declared.file.Decl.{Decl}
+use Rattle.frp_file.specs.declared.file.Decl.TheVariants as d
+use Rattle.frp_file.specs.declared.file.File.{File}
+use Rattle.frp_file.specs.declared.file.ItemForm.{ItemForm}
+use Rattle.frp_file.specs.declared.file.ItemForm.TheVariants.{Sink, Let}
+use Rattle.frp_file.specs.declared.file.ShapeForm.{ShapeForm}
+use Rattle.frp_file.specs.declared.file.ShapeForm.TheVariants.{Loops, Loopc}
 use Rattle.frp_graph.specs.declared.prog.Line3.TheVariants.{Node}
 use Rattle.frp_graph.specs.declared.prog.Prog.{Prog}
 use Rattle.frp_graph.specs.declared.trace.Fact.{Fact}
@@ -55,7 +55,7 @@ prog_is : (ds : List Decl) (s : State) → Holds s ds → prog_in s ≡ prog_of 
 prog_is ds s h =
     let lines : map (tie_line s.ties) s.lines ≡ each (lines_of (each ties_of nothing ds)) nothing ds =
     ap (λ ts. map (tie_line ts) s.lines) h.ties ∙ ap (map (tie_line (each ties_of nothing ds))) h.lines ∙ sym (all_lines_tied (each ties_of nothing ds) nothing ds) in
-    (λ i. record { codes = h.codes i; funs = h.funs i; templates = []; body = record { param = None; kept = []; lines = lines i; give = None } })
+    (λ i. record { codes = h.codes i; funs = h.funs i; templates = []; body = record { param = None; kept = []; lines = lines i; give = None }; joins = [] })
 
 pub finished : (f : File) (s : State) (prog : Prog) (labels : List Label) (listens : List Name) (scripts : List (List Fact)) → is_core f ≡ true → Holds s f.graph.decls
     → all_declared nothing f.graph.decls ≡ Ok (known_of s) → all_tied s.loops ≡ Ok tt → listened (known_of s) f.listens ≡ Ok tt → scripted (known_of s) f.senders ≡ Ok tt

@@ -1,6 +1,5 @@
 pub mod LamTypings
 pub mod Noted
-pub mod MoreFuns
 pub mod ClosedTypes
 pub mod ClosedValues
 pub mod TieLines

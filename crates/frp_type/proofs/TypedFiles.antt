@@ -6,6 +6,7 @@ use Rattle.std.specs.List.{list_all, AllByRecursion}
 use Rattle.std.proofs.lemmas.Bool.{cases_Bool}
 use Rattle.std.proofs.lemmas.Bool.Decides.{nat_tests}
 use Rattle.std.proofs.lemmas.List.{map-append, length-map, length-append}
+use Rattle.std.proofs.lemmas.List.Folds.{list_all-append}
 use Rattle.frp_base.specs.declared.text.Text.{Text}
 use Rattle.frp_base.specs.declared.ty.Ty.{Ty}
 use Rattle.frp_base.specs.declared.ty.Ty.TheVariants as t
@@ -17,24 +18,25 @@ use Rattle.frp_expr.specs.declared.raw.RawTy.{RawTy}
 use Rattle.frp_expr.specs.declared.raw.Spot.{Spot}
 use Rattle.frp_expr.specs.Raw.{Outcome, ◌>>=◌, written, typing, resolve}
 use Rattle.frp_expr.specs.Scope.{Named, Fun, names_of, types_of, fun_names, sigs_of}
-use Rattle.frp_expr.specs.Types.{given}
+use Rattle.frp_expr.specs.Types.{is_type, given}
 use Rattle.frp_expr.specs.Typing.{Sig, type_in, has}
 use Rattle.frp_expr.proofs.TypingAgrees.{agrees}
-use Rattle.frp_graph.specs.declared.file.Decl.{Decl}
-use Rattle.frp_graph.specs.declared.file.Decl.TheVariants as d
-use Rattle.frp_graph.specs.declared.file.File.{File}
-use Rattle.frp_graph.specs.declared.file.Function.{Function}
-use Rattle.frp_graph.specs.declared.file.ItemForm.{ItemForm}
-use Rattle.frp_graph.specs.declared.file.ItemForm.TheVariants.{Sink, Let, Tie}
-use Rattle.frp_graph.specs.declared.file.RawShape.{RawShape}
-use Rattle.frp_graph.specs.declared.file.ShapeForm.{ShapeForm}
-use Rattle.frp_graph.specs.declared.file.ShapeForm.TheVariants.{Loops, Loopc}
+use Rattle.frp_file.specs.declared.file.Decl.{Decl}
+use Rattle.frp_file.specs.declared.file.Decl.TheVariants as d
+use Rattle.frp_file.specs.declared.file.File.{File}
+use Rattle.frp_file.specs.declared.file.Function.{Function}
+use Rattle.frp_file.specs.declared.file.ItemForm.{ItemForm}
+use Rattle.frp_file.specs.declared.file.ItemForm.TheVariants.{Sink, Let, Tie}
+use Rattle.frp_file.specs.declared.file.Param.{Param}
+use Rattle.frp_file.specs.declared.file.RawShape.{RawShape}
+use Rattle.frp_file.specs.declared.file.ShapeForm.{ShapeForm}
+use Rattle.frp_file.specs.declared.file.ShapeForm.TheVariants.{Loops, Loopc}
 use Rattle.frp_graph.specs.declared.prog.FunDef.{FunDef}
 use Rattle.frp_graph.specs.declared.prog.Line3.{Line3}
 use Rattle.frp_graph.specs.declared.prog.Line3.TheVariants.{Node}
 use Rattle.frp_graph.specs.declared.prog.LineShape.{LineShape}
 use Rattle.frp_graph.specs.declared.prog.LineShape.TheVariants as l
-use Rattle.frp_graph.specs.TypedProg.{IsTypedProg, is_tied, are_typed_lines, shape_type, sig_of, are_typed_funs, all_types, is_type}
+use Rattle.frp_graph.specs.TypedProg.{IsTypedProg, is_node_line, is_tied, are_typed_lines, shape_type, sig_of, are_typed_funs, all_types}
 use Rattle.frp_type.specs.Core.{is_core, is_core_decl, is_core_item, is_core_sender}
 use Rattle.frp_type.specs.Known.{Known, nothing, is_new, shape_typing, lam_in, with_name, with_node, tying, loop_of, target_of, named, type_at, same_type, fault_if, item_known, params, fun_known, declared, all_declared}
 use Rattle.frp_type.specs.Faults.{checked, all_tied, listened, scripted}
@@ -139,6 +141,16 @@ fun_ok k m f e =
     let u = bind_ok (typing k.funs f.e (q.0 ++ (f.arg.name.text, s.0) ∷ [])) (λ b. Ok (record k { funs = k.funs ++ (f.name.text, types_of q.0, s.0, b) ∷ [] })) m s.2 in
     (q.0, s.0, u.0, q.1, s.1, u.1, ok_same u.2)
 
+-- parameters without a fault are of types of the language
+params_types : (ns : List Named) (ps : List Param) (ms : List Named) → list_all is_type (types_of ns) ≡ true → params ns ps ≡ Ok ms → list_all is_type (types_of ms) ≡ true
+params_types ns [] ms h e = subst (λ (ms : List Named). list_all is_type (types_of ms) ≡ true) (ok_same e) h
+params_types ns (p ∷ ps) ms h e =
+    let q = bind_ok (is_new (names_of ns) p.name) (λ _. written p.ty >>= λ a. params (ns ++ (p.name.text, a) ∷ []) ps) ms e in
+    let r = bind_ok (written p.ty) (λ a. params (ns ++ (p.name.text, a) ∷ []) ps) ms q.2 in
+    let more : list_all is_type (types_of (ns ++ (p.name.text, r.0) ∷ [])) ≡ true =
+    ap (list_all is_type) (with_type ns p.name.text r.0) ∙ list_all-append is_type (types_of ns) (r.0 ∷ []) ∙ both _ _ h (both (is_type r.0) true (written_is_type p.ty r.0 r.1) refl) in
+    params_types (ns ++ (p.name.text, r.0) ∷ []) ps ms more r.2
+
 -- The functions: what is known of them, and their definitions.
 
 -- the definition of a function without a fault
@@ -174,7 +186,9 @@ funs_front k n (d.Function f) e h rest r =
     let after : sigs_of k.funs ++ record { kept = types_of p.0; arg = p.1; result = p.2 } ∷ [] ≡ sigs_of n.funs =
     sym (map-append (λ (g : Fun). record { kept = g.1; arg = g.2; result = g.3 }) k.funs ((f.name.text, types_of p.0, p.1, p.2) ∷ [])) ∙ ap (λ (m : Known). sigs_of m.funs) p.6 in
     ap (λ (ds : List FunDef). are_typed_funs (sigs_of k.funs) (ds ++ rest)) (def_is k f p.0 p.1 p.2 p.3 p.4 p.5)
-    ∙ both (has p.2 (type_in (sigs_of k.funs) (resolve (fun_names k.funs) f.e (names_of p.0 ++ f.arg.name.text ∷ [])) (types_of p.0 ++ p.1 ∷ []))) _ (has_it p.2 _ whole)
+    ∙ both _ (are_typed_funs (sigs_of k.funs ++ record { kept = types_of p.0; arg = p.1; result = p.2 } ∷ []) rest)
+    (both (list_all is_type (types_of p.0) && is_type p.1) (has p.2 (type_in (sigs_of k.funs) (resolve (fun_names k.funs) f.e (names_of p.0 ++ f.arg.name.text ∷ [])) (types_of p.0 ++ p.1 ∷ [])))
+    (both (list_all is_type (types_of p.0)) (is_type p.1) (params_types [] f.kept p.0 refl p.3) (written_is_type f.arg.ty p.1 p.4)) (has_it p.2 _ whole))
     (ap (λ (ss : List Sig). are_typed_funs ss rest) after ∙ r)
 funs_front k n (d.Item i) e h rest r = ap (λ (ss : List Sig). are_typed_funs ss rest) (sym (sigs_step k n (d.Item i) e ∙ append_nil (sigs_of k.funs))) ∙ r
 funs_front k n (d.Template x) e h rest r = absurd cc
@@ -371,11 +385,27 @@ all_types_of sigs codes ties (x ∷ ds) k m e =
       front (d.Function f) w rest q = let p = fun_ok k (step k m x ds e).0 f (ap (declared k) w ∙ (step k m x ds e).1) in ap (λ us. all_types sigs codes [] us rest) (ap (λ (m : Known). types_of m.names) p.6) ∙ q
       front (d.Template y) w rest q = ap (λ us. all_types sigs codes [] us rest) (ap (λ (m : Known). types_of m.names) (ok_same (ap (declared k) w ∙ (step k m x ds e).1))) ∙ q
 
+-- The lines make nodes alone.
+
+nodes_front : (i : ItemForm) (ties : List (ℕ × ℕ)) (k : Known) (rest : List Line3) → list_all is_node_line rest ≡ true → list_all is_node_line (item_lines ties k i ++ rest) ≡ true
+nodes_front (Sink v ty) ties k rest h = h
+nodes_front (Let v shape) ties k rest h = h
+nodes_front _ ties k rest h = h
+
+nodes_only : (ties : List (ℕ × ℕ)) (ds : List Decl) (k : Known) → list_all is_node_line (each (lines_of ties) k ds) ≡ true
+nodes_only ties [] k = refl
+nodes_only ties (x ∷ ds) k = front x (each (lines_of ties) (after k x) ds) (nodes_only ties ds (after k x)) where
+  front : (x : Decl) (rest : List Line3) → list_all is_node_line rest ≡ true → list_all is_node_line (lines_of ties k x ++ rest) ≡ true
+  front (d.Item i) rest h = nodes_front i.form ties k rest h
+  front (d.Function f) rest h = h
+  front (d.Template t) rest h = h
+
 pub program_typed : (ds : List Decl) (m : Known) → all_declared nothing ds ≡ Ok m → list_all is_core_decl ds ≡ true → IsTypedProg (prog_of ds)
 program_typed ds m e h = record {
   funs = funs_typed ds nothing m e h;
-  patterns = [];
   templates = refl;
+  nodes_only = nodes_only (each ties_of nothing ds) ds nothing;
+  joins = refl;
   lines = ap (λ us. are_typed_lines (map sig_of (each funs_of nothing ds)) (each codes_of nothing ds) [] us [] [] (each (lines_of (each ties_of nothing ds)) nothing ds))
       (all_types_of (map sig_of (each funs_of nothing ds)) (each codes_of nothing ds) (each ties_of nothing ds) ds nothing m e)
       ∙ lines_typed (map sig_of (each funs_of nothing ds)) (each codes_of nothing ds) (each ties_of nothing ds) ds nothing m [] [] e h refl refl refl (ties_good ds nothing m e);

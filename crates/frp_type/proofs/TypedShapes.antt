@@ -15,7 +15,7 @@ use Rattle.frp_expr.specs.declared.expr.Expr.{Expr}
 use Rattle.frp_expr.specs.declared.raw.Raw.{Raw}
 use Rattle.frp_expr.specs.Raw.{Outcome, ◌>>=◌, or_fault, part_of, written, typing, is_lawful, resolve}
 use Rattle.frp_expr.specs.Scope.{Named, names_of, types_of, fun_names, sigs_of}
-use Rattle.frp_expr.specs.Types.{given, item_type}
+use Rattle.frp_expr.specs.Types.{is_type, given, item_type}
 use Rattle.frp_expr.specs.Typing.{Sig, ◌>>=◌ as ◌>>?◌, type_in}
 use Rattle.frp_expr.specs.declared.fault.TypeFault.{TypeFault}
 use Rattle.frp_expr.specs.declared.fault.TypeKind.{TypeKind}
@@ -23,14 +23,14 @@ use Rattle.frp_expr.specs.declared.fault.TypeKind.TheVariants as kind
 use Rattle.frp_expr.specs.declared.raw.RawTy.{RawTy}
 use Rattle.frp_expr.proofs.TypeLemmas.{bind_some, given_some}
 use Rattle.frp_expr.proofs.TypingAgrees.{agrees}
-use Rattle.frp_graph.specs.declared.file.ShapeForm.{ShapeForm}
-use Rattle.frp_graph.specs.declared.file.ShapeForm.TheVariants.{Never, Constant, Map, Mapc, Filter, Merge, Snapshot, Split, Updates, Value, Loops, Loopc, Hold, Apply, Switchs, Switchc, Execute}
-use Rattle.frp_graph.specs.TypedProg.{stream_item, cell_item, stream_of, cell_of, lam_type, shape_type, types_at, result_in, result_for, is_type, is_stream, is_cell}
+use Rattle.frp_file.specs.declared.file.ShapeForm.{ShapeForm}
+use Rattle.frp_file.specs.declared.file.ShapeForm.TheVariants.{Never, Constant, Map, Mapc, Filter, Merge, Snapshot, Split, Updates, Value, Loops, Loopc, Hold, Apply, Switchs, Switchc, Execute}
+use Rattle.frp_graph.specs.TypedProg.{stream_item, cell_item, stream_of, cell_of, lam_type, shape_type, types_at, result_in, result_for, is_stream, is_cell}
 use Rattle.frp_type.specs.Closed.{closed, used_of}
 use Rattle.frp_type.specs.Core.{is_core_shape}
 use Rattle.frp_type.specs.Known.{Known, seen, of_type, stream, cell, over, fun_in, fun_parts, shape_typing, lam_in}
 use Rattle.frp_type.specs.Meaning.{operand, meant, code, lam, line_shape}
-use Rattle.frp_type.proofs.MoreFuns.{sigs_more}
+use Rattle.frp_expr.proofs.MoreFuns.{sigs_more}
 use Rattle.frp_type.proofs.ClosedTypes.{closed_type}
 use Rattle.frp_type.proofs.WrittenTypes.{stream_item_of, cell_item_of, is_stream_type, cell_is_node, stream_is_type, cell_is_type, written_is_type}
 

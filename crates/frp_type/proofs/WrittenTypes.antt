@@ -1,21 +1,17 @@
 -- A written type without a fault is a type of the language.
 use Rattle.std.proofs.Common.{◌≡◌, ℕ, Bool, true, false, Some, Ok, Err, refl, sym, ap, ◌∙◌, subst}
 use Rattle.std.specs.Prelude.{◌&&◌, ◌||◌, is_some}
-use Rattle.frp_base.specs.declared.ty.Ty.{Ty, roll-Ty, out-roll-Ty, ind-Ty}
-use Rattle.frp_base.specs.declared.ty.Ty.TheOpen.{Ty-F}
+use Rattle.frp_base.specs.declared.ty.Ty.{Ty, out-roll-Ty}
 use Rattle.frp_base.specs.declared.ty.Ty.TheOpen as u
 use Rattle.frp_base.specs.declared.ty.Ty.TheVariants as t
-use Rattle.frp_base.specs.declared.ty.Ty.TheFolds.{fold-Ty, fold-roll-Ty, map-Ty}
-use Rattle.frp_expr.specs.Types.{is_plain, is_plain_step, given}
+use Rattle.frp_base.specs.declared.ty.Ty.TheFolds.{fold-roll-Ty}
+use Rattle.frp_expr.specs.Types.{type_kind, kind_step, is_type, is_plain, given}
 use Rattle.frp_expr.specs.Raw.{Outcome, ◌>>=◌, or_fault, TyPart, item_by, ty_part, written, written_step}
 use Rattle.frp_expr.specs.declared.fault.TypeKind.TheVariants as kind
 use Rattle.frp_expr.specs.declared.raw.RawTy.{RawTy, RawTy-F, roll-RawTy, fold-roll-RawTy, map-RawTy, ind-RawTy}
 use Rattle.frp_expr.specs.declared.raw.TyForm.{TyForm, TyForm-F, roll-TyForm, fold-TyForm, fold-roll-TyForm, map-TyForm}
 use Rattle.frp_expr.specs.declared.raw.TyForm.TheOpen as y
-use Rattle.frp_graph.specs.TypedProg.{kind_step, is_type, stream_in, cell_in, stream_item, cell_item, is_stream, is_cell}
-
-abbrev pub kind_of : Ty → Bool × Bool
-kind_of = fold-Ty (Bool × Bool) kind_step
+use Rattle.frp_graph.specs.TypedProg.{stream_in, cell_in, stream_item, cell_item, is_stream, is_cell}
 
 pub stream_item_of : (a : Ty) → stream_item (t.Stream a) ≡ Some a
 stream_item_of a = ap stream_item (sym (t.rolls-Stream a)) ∙ ap stream_in (out-roll-Ty (u.Stream a))
@@ -33,20 +29,20 @@ or_true false = refl
 pub cell_is_node : (a : Ty) → is_stream (t.Cell a) || is_cell (t.Cell a) ≡ true
 cell_is_node a = ap (λ b. is_stream (t.Cell a) || b) (ap is_some (cell_item_of a)) ∙ or_true (is_stream (t.Cell a))
 
-kind_pair : (a b : Ty) → kind_of (t.Pair a b) ≡ kind_step (u.Pair (kind_of a) (kind_of b))
-kind_pair a b = ap kind_of (sym (t.rolls-Pair a b)) ∙ fold-roll-Ty (Bool × Bool) kind_step (u.Pair a b)
+kind_pair : (a b : Ty) → type_kind (t.Pair a b) ≡ kind_step (u.Pair (type_kind a) (type_kind b))
+kind_pair a b = ap type_kind (sym (t.rolls-Pair a b)) ∙ fold-roll-Ty (Bool × Bool) kind_step (u.Pair a b)
 
-kind_list : (a : Ty) → kind_of (t.List a) ≡ kind_step (u.List (kind_of a))
-kind_list a = ap kind_of (sym (t.rolls-List a)) ∙ fold-roll-Ty (Bool × Bool) kind_step (u.List a)
+kind_list : (a : Ty) → type_kind (t.List a) ≡ kind_step (u.List (type_kind a))
+kind_list a = ap type_kind (sym (t.rolls-List a)) ∙ fold-roll-Ty (Bool × Bool) kind_step (u.List a)
 
-kind_stream : (a : Ty) → kind_of (t.Stream a) ≡ kind_step (u.Stream (kind_of a))
-kind_stream a = ap kind_of (sym (t.rolls-Stream a)) ∙ fold-roll-Ty (Bool × Bool) kind_step (u.Stream a)
+kind_stream : (a : Ty) → type_kind (t.Stream a) ≡ kind_step (u.Stream (type_kind a))
+kind_stream a = ap type_kind (sym (t.rolls-Stream a)) ∙ fold-roll-Ty (Bool × Bool) kind_step (u.Stream a)
 
-kind_cell : (a : Ty) → kind_of (t.Cell a) ≡ kind_step (u.Cell (kind_of a))
-kind_cell a = ap kind_of (sym (t.rolls-Cell a)) ∙ fold-roll-Ty (Bool × Bool) kind_step (u.Cell a)
+kind_cell : (a : Ty) → type_kind (t.Cell a) ≡ kind_step (u.Cell (type_kind a))
+kind_cell a = ap type_kind (sym (t.rolls-Cell a)) ∙ fold-roll-Ty (Bool × Bool) kind_step (u.Cell a)
 
-kind_fun : (a b : Ty) → kind_of (t.Fun a b) ≡ kind_step (u.Fun (kind_of a) (kind_of b))
-kind_fun a b = ap kind_of (sym (t.rolls-Fun a b)) ∙ fold-roll-Ty (Bool × Bool) kind_step (u.Fun a b)
+kind_fun : (a b : Ty) → type_kind (t.Fun a b) ≡ kind_step (u.Fun (type_kind a) (type_kind b))
+kind_fun a b = ap type_kind (sym (t.rolls-Fun a b)) ∙ fold-roll-Ty (Bool × Bool) kind_step (u.Fun a b)
 
 pub stream_is_type : (a : Ty) → is_type a ≡ true → is_type (t.Stream a) ≡ true
 stream_is_type a h = ap (λ (k : Bool × Bool). k.0) (kind_stream a) ∙ h
@@ -54,30 +50,8 @@ stream_is_type a h = ap (λ (k : Bool × Bool). k.0) (kind_stream a) ∙ h
 pub cell_is_type : (a : Ty) → is_type a ≡ true → is_type (t.Cell a) ≡ true
 cell_is_type a h = ap (λ (k : Bool × Bool). k.0) (kind_cell a) ∙ h
 
--- what is plain by its kind is plain
-abbrev SuchTy : Type 0
-SuchTy = (x : Ty) × ((kind_of x).1 ≡ is_plain x)
-
-plain_layer : (l : Ty-F SuchTy) → (kind_step (map-Ty Ty (Bool × Bool) kind_of (map-Ty SuchTy Ty (λ s. s.0) l))).1 ≡ is_plain_step (map-Ty Ty Bool is_plain (map-Ty SuchTy Ty (λ s. s.0) l))
-plain_layer u.Int = refl
-plain_layer u.Bool = refl
-plain_layer u.Text = refl
-plain_layer (u.Pair a b) = λ i. a.1 i && b.1 i
-plain_layer (u.List a) = refl
-plain_layer (u.Stream a) = refl
-plain_layer (u.Cell a) = refl
-plain_layer (u.Fun a b) = refl
-
 both_true : (a b : Bool) → a ≡ true → b ≡ true → a && b ≡ true
 both_true a b h g = ap (λ c. c && b) h ∙ g
-
-kind_plain : (x : Ty) → (kind_of x).1 ≡ is_plain x
-kind_plain = ind-Ty (λ x. (kind_of x).1 ≡ is_plain x)
-    (λ x l e. subst (λ (x : Ty-F Ty). (kind_of (roll-Ty x)).1 ≡ is_plain (roll-Ty x)) e (rolled l)) where
-      rolled : (l : Ty-F SuchTy) → let x : Ty-F Ty = map-Ty SuchTy Ty (λ s. s.0) l in (kind_of (roll-Ty x)).1 ≡ is_plain (roll-Ty x)
-      rolled l =
-          let x : Ty-F Ty = map-Ty SuchTy Ty (λ s. s.0) l in
-          ap (λ (k : Bool × Bool). k.1) (fold-roll-Ty (Bool × Bool) kind_step x) ∙ plain_layer l ∙ sym (fold-roll-Ty Bool is_plain_step x)
 
 abbrev form_written : TyForm → Outcome Ty
 form_written = fold-TyForm (Outcome Ty) TyPart written_step (λ r. record { at = r.at; ty = r.form })
@@ -116,12 +90,12 @@ list_right p a e =
     let q = bind_ok (item_by p) (λ x. Ok (t.List x)) a e in
     let r = bind_ok p.ty (λ x. or_fault p.at kind.Type (given (is_plain x) x)) q.0 q.1 in
     let s = right_plain p.at (is_plain r.0) r.0 q.0 r.2 in
-    subst (λ (a : Ty). is_type a ≡ true) (ok_is q.2) (ap (λ (k : Bool × Bool). k.0) (kind_list q.0) ∙ kind_plain q.0 ∙ ap is_plain (sym s.1) ∙ s.0)
+    subst (λ (a : Ty). is_type a ≡ true) (ok_is q.2) (ap (λ (k : Bool × Bool). k.0) (kind_list q.0) ∙ ap is_plain (sym s.1) ∙ s.0)
 
 written_layer : (l : TyForm-F SuchForm SuchRaw) → Right (written_step (map-TyForm TyForm RawTy (Outcome Ty) TyPart form_written ty_part (map-TyForm SuchForm SuchRaw TyForm RawTy (λ s. s.0) (λ s. s.0) l)))
-written_layer y.Int a e = subst (λ (a : Ty). is_type a ≡ true) (ok_is e) (ap (λ (k : Bool × Bool). k.0) (ap kind_of (sym t.rolls-Int) ∙ fold-roll-Ty (Bool × Bool) kind_step u.Int))
-written_layer y.Bool a e = subst (λ (a : Ty). is_type a ≡ true) (ok_is e) (ap (λ (k : Bool × Bool). k.0) (ap kind_of (sym t.rolls-Bool) ∙ fold-roll-Ty (Bool × Bool) kind_step u.Bool))
-written_layer y.Text a e = subst (λ (a : Ty). is_type a ≡ true) (ok_is e) (ap (λ (k : Bool × Bool). k.0) (ap kind_of (sym t.rolls-Text) ∙ fold-roll-Ty (Bool × Bool) kind_step u.Text))
+written_layer y.Int a e = subst (λ (a : Ty). is_type a ≡ true) (ok_is e) (ap (λ (k : Bool × Bool). k.0) (ap type_kind (sym t.rolls-Int) ∙ fold-roll-Ty (Bool × Bool) kind_step u.Int))
+written_layer y.Bool a e = subst (λ (a : Ty). is_type a ≡ true) (ok_is e) (ap (λ (k : Bool × Bool). k.0) (ap type_kind (sym t.rolls-Bool) ∙ fold-roll-Ty (Bool × Bool) kind_step u.Bool))
+written_layer y.Text a e = subst (λ (a : Ty). is_type a ≡ true) (ok_is e) (ap (λ (k : Bool × Bool). k.0) (ap type_kind (sym t.rolls-Text) ∙ fold-roll-Ty (Bool × Bool) kind_step u.Text))
 written_layer (y.Pair p q) a e = two_right (ty_part p.0).ty (ty_part q.0).ty t.Pair p.1 q.1 (λ a b h g. ap (λ (k : Bool × Bool). k.0) (kind_pair a b) ∙ both_true (is_type a) (is_type b) h g) a e
 written_layer (y.List p) a e = list_right (ty_part p.0) a e
 written_layer (y.Stream p) a e = one_right (ty_part p.0).ty t.Stream p.1 stream_is_type a e

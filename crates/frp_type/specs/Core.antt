@@ -3,14 +3,14 @@
 use Rattle.std.specs.Prelude.{Bool, true, false, ◌&&◌}
 use Rattle.std.specs.List.{list_all}
 use Rattle.frp_expr.specs.Raw.{is_lawful}
-use Rattle.frp_graph.specs.declared.file.File.{File}
-use Rattle.frp_graph.specs.declared.file.Decl.{Decl}
-use Rattle.frp_graph.specs.declared.file.Decl.TheVariants as d
-use Rattle.frp_graph.specs.declared.file.ItemForm.{ItemForm}
-use Rattle.frp_graph.specs.declared.file.ItemForm.TheVariants.{Sink, Let, Tie}
-use Rattle.frp_graph.specs.declared.file.Sender.{Sender}
-use Rattle.frp_graph.specs.declared.file.ShapeForm.{ShapeForm}
-use Rattle.frp_graph.specs.declared.file.ShapeForm.TheVariants.{Never, Constant, Map, Mapc, Filter, Merge, Snapshot, Split, Updates, Value, Loops, Loopc, Hold, Apply, Switchs, Switchc, Execute}
+use Rattle.frp_file.specs.declared.file.File.{File}
+use Rattle.frp_file.specs.declared.file.Decl.{Decl}
+use Rattle.frp_file.specs.declared.file.Decl.TheVariants as d
+use Rattle.frp_file.specs.declared.file.ItemForm.{ItemForm}
+use Rattle.frp_file.specs.declared.file.ItemForm.TheVariants.{Sink, Let, Tie}
+use Rattle.frp_file.specs.declared.file.Sender.{Sender}
+use Rattle.frp_file.specs.declared.file.ShapeForm.{ShapeForm}
+use Rattle.frp_file.specs.declared.file.ShapeForm.TheVariants.{Never, Constant, Map, Mapc, Filter, Merge, Snapshot, Split, Updates, Value, Loops, Loopc, Hold, Apply, Switchs, Switchc, Execute}
 
 abbrev pub is_core_shape : ShapeForm → Bool
 is_core_shape (Never ty) = true

@@ -2,10 +2,10 @@
 use Rattle.std.specs.Prelude.{List, [], ◌∷◌, Ok, Err}
 use Rattle.frp_expr.specs.Raw.{Outcome, ◌>>=◌, typing}
 use Rattle.frp_expr.specs.declared.fault.TypeKind.TheVariants as kind
-use Rattle.frp_graph.specs.declared.file.File.{File}
-use Rattle.frp_graph.specs.declared.file.Listen.{Listen}
-use Rattle.frp_graph.specs.declared.file.RawSend.{RawSend}
-use Rattle.frp_graph.specs.declared.file.Sender.{Sender}
+use Rattle.frp_file.specs.declared.file.File.{File}
+use Rattle.frp_file.specs.declared.file.Listen.{Listen}
+use Rattle.frp_file.specs.declared.file.RawSend.{RawSend}
+use Rattle.frp_file.specs.declared.file.Sender.{Sender}
 use Rattle.frp_type.specs.Known.{Known, nothing, named, all_declared}
 use Rattle.frp_type.specs.declared.state.Loop.{Loop}
 

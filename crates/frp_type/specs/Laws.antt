@@ -1,6 +1,6 @@
 -- What the definitions of the checker are worth.
 use Rattle.std.specs.Prelude.{◌≡◌, IsTrue, Ok}
-use Rattle.frp_graph.specs.declared.file.File.{File}
+use Rattle.frp_file.specs.declared.file.File.{File}
 use Rattle.frp_graph.specs.TypedProg.{IsTypedProg}
 use Rattle.frp_type.specs.Core.{is_core}
 use Rattle.frp_type.specs.Faults.{checked}

@@ -5,3 +5,4 @@ pub mod Faults
 pub mod Meaning
 pub mod States
 pub mod Laws
+pub mod Rebuilding

@@ -13,15 +13,15 @@ use Rattle.frp_expr.specs.declared.raw.Spot.{Spot}
 use Rattle.frp_expr.specs.Eval.{eval}
 use Rattle.frp_expr.specs.Scope.{number_of, Named, names_of, types_of, fun_names}
 use Rattle.frp_expr.specs.Raw.{Outcome, resolve, written, typing}
-use Rattle.frp_graph.specs.declared.file.File.{File}
-use Rattle.frp_graph.specs.declared.file.Decl.{Decl}
-use Rattle.frp_graph.specs.declared.file.Decl.TheVariants as d
-use Rattle.frp_graph.specs.declared.file.Function.{Function}
-use Rattle.frp_graph.specs.declared.file.ItemForm.{ItemForm}
-use Rattle.frp_graph.specs.declared.file.ItemForm.TheVariants.{Sink, Let, Tie}
-use Rattle.frp_graph.specs.declared.file.RawSend.{RawSend}
-use Rattle.frp_graph.specs.declared.file.ShapeForm.{ShapeForm}
-use Rattle.frp_graph.specs.declared.file.ShapeForm.TheVariants.{Never, Constant, Map, Mapc, Filter, Merge, Snapshot, Split, Updates, Value, Loops, Loopc, Hold, Apply, Switchs, Switchc}
+use Rattle.frp_file.specs.declared.file.File.{File}
+use Rattle.frp_file.specs.declared.file.Decl.{Decl}
+use Rattle.frp_file.specs.declared.file.Decl.TheVariants as d
+use Rattle.frp_file.specs.declared.file.Function.{Function}
+use Rattle.frp_file.specs.declared.file.ItemForm.{ItemForm}
+use Rattle.frp_file.specs.declared.file.ItemForm.TheVariants.{Sink, Let, Tie}
+use Rattle.frp_file.specs.declared.file.RawSend.{RawSend}
+use Rattle.frp_file.specs.declared.file.ShapeForm.{ShapeForm}
+use Rattle.frp_file.specs.declared.file.ShapeForm.TheVariants.{Never, Constant, Map, Mapc, Filter, Merge, Snapshot, Split, Updates, Value, Loops, Loopc, Hold, Apply, Switchs, Switchc}
 use Rattle.frp_graph.specs.declared.prog.FunDef.{FunDef}
 use Rattle.frp_graph.specs.declared.prog.Line3.{Line3}
 use Rattle.frp_graph.specs.declared.prog.Line3.TheVariants.{Node}
@@ -150,6 +150,7 @@ prog_of ds = record {
   funs = each funs_of nothing ds;
   templates = [];
   body = record { param = None; kept = []; lines = each (lines_of (each ties_of nothing ds)) nothing ds; give = None };
+  joins = [];
 }
 
 -- The nodes by their names: node i is that of the i-th name of the body.

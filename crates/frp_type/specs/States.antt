@@ -5,8 +5,8 @@ use Rattle.frp_base.specs.declared.ty.Ty.{Ty}
 use Rattle.frp_expr.specs.declared.expr.Expr.{Expr}
 use Rattle.frp_expr.specs.declared.scope.Scope.{Scope}
 use Rattle.frp_expr.specs.declared.scope.Typing.{Typing}
-use Rattle.frp_graph.specs.declared.file.Decl.{Decl}
-use Rattle.frp_graph.specs.declared.file.File.{File}
+use Rattle.frp_file.specs.declared.file.Decl.{Decl}
+use Rattle.frp_file.specs.declared.file.File.{File}
 use Rattle.frp_graph.specs.declared.prog.Line3.{Line3}
 use Rattle.frp_graph.specs.declared.prog.Line3.TheVariants.{Node, Get}
 use Rattle.frp_graph.specs.declared.prog.LineShape.{LineShape}
@@ -82,7 +82,7 @@ tie_line ties (Get c) = Get c
 
 -- the program of a state in which all loops are tied
 abbrev pub prog_in : State → Prog
-prog_in s = record { codes = s.codes; funs = s.funs; templates = []; body = record { param = None; kept = []; lines = map (tie_line s.ties) s.lines; give = None } }
+prog_in s = record { codes = s.codes; funs = s.funs; templates = []; body = record { param = None; kept = []; lines = map (tie_line s.ties) s.lines; give = None }; joins = [] }
 
 -- The file has no fault and this is what it means; its program is typed.
 pub record IsTypedFile (f : File) (t : Typed) : Type 0 where

@@ -22,7 +22,8 @@ use crate::state::{Loop, State};
 use crate::typed::{Label, Typed};
 use frp_base::{Memory, Name, Seq, Text, Ty, Val};
 use frp_expr::{ExprStop, Scope, Spot, TypeKind, eval, stop};
-use frp_graph::{Body, Decl, Fact, File, Line3, LineShape, Listen, Prog, RawSend, Sender};
+use frp_file::{Decl, File, Listen, RawSend, Sender};
+use frp_graph::{Body, Fact, Line3, LineShape, Prog};
 use std::alloc::Global;
 
 /// The most declarations: a function's number has 32 bits.
@@ -231,6 +232,7 @@ fn program(alloc: Global, state: State) -> Prog
             lines: tied_lines(lines, ties.as_slice()),
             give: None,
         },
+        joins: Seq::new(alloc),
     }
 }
 

@@ -6,7 +6,7 @@ ghost use Rattle.frp_expr.specs.Raw.{is_lawful};
 ghost use Rattle.frp_type.specs.Core.{is_core, is_core_decl, is_core_item, is_core_shape, is_core_sender};
 
 use frp_expr::is_lawful;
-use frp_graph::{Decl, File, ItemForm, RawSend, Sender, ShapeForm};
+use frp_file::{Decl, File, ItemForm, RawSend, Sender, ShapeForm};
 
 /// Whether a file has core items alone, no templates, and lawful written expressions: what `check` asks for.
 pub fn is_core(file: &File) -> bool

@@ -5,10 +5,10 @@ ghost use Rattle.frp_expr.specs.Gives.{Gives};
 ghost use Rattle.frp_expr.specs.Raw.{is_lawful, typing};
 ghost use Rattle.frp_expr.specs.Scope.{types_of};
 ghost use Rattle.frp_expr.specs.TypeOf.{IsTypingOf};
-ghost use Rattle.frp_graph.specs.declared.file.ItemForm.TheVariants as form;
+ghost use Rattle.frp_file.specs.declared.file.ItemForm.TheVariants as form;
 ghost use Rattle.frp_type.specs.Core.{is_core_item, is_core_decl, is_core_shape};
 ghost use Rattle.frp_type.specs.Known.{params, fun_known, item_known, declared, is_loop, is_untied, fault_if, loop_of, target_of, same_type, tying};
-ghost use Rattle.frp_graph.specs.declared.file.Decl.TheVariants as decl;
+ghost use Rattle.frp_file.specs.declared.file.Decl.TheVariants as decl;
 ghost use Rattle.frp_type.specs.States.{known_of, with_line, with_fun, Adds};
 
 use crate::names::{is_untied, named, new_fun, new_name, without};
@@ -17,9 +17,8 @@ use crate::state::{Loop, State};
 use crate::types::{boxed_type, copied};
 use frp_base::{Boxed, Memory, Seq, Text, Ty};
 use frp_expr::{ExprStop, Raw, RawTy, Spot, TypeKind, Typing, stop, type_of};
-use frp_graph::{
-    Decl, FunDef, Function, Item, ItemForm, Line3, LineShape, Param, RawShape, ShapeForm,
-};
+use frp_file::{Decl, Function, Item, ItemForm, Param, RawShape, ShapeForm};
+use frp_graph::{FunDef, Line3, LineShape};
 use std::alloc::Global;
 use std::mem::replace;
 
@@ -70,6 +69,22 @@ fn add_node(state: &mut State, name: Text, ty: Boxed<Ty>, line: Line) -> Result<
     state.scope.names.add((name, ty.into_inner()))
 }
 
+/// Adds the node of a line.
+fn add_line(alloc: Global, state: &mut State, name: Text, line: Line) -> Result<(), Memory>
+    ensures { OnOk result (state.new ≡ with_line state.old name line.ty line) }
+{
+    let ty = type_copy(alloc, &line.ty)?;
+    add_node(state, name, ty, line)
+}
+
+/// An equal type, in a box.
+fn type_copy(alloc: Global, ty: &Ty) -> Result<Boxed<Ty>, Memory>
+    ensures { IfOk result (λ t. t ≡ ty.now) }
+{
+    let ty = ty.copy(alloc)?;
+    Boxed::new(alloc, ty)
+}
+
 /// A node of a shape.
 fn bound(
     alloc: Global,
@@ -88,8 +103,7 @@ fn bound(
     let text = n.text.copy()?;
     let position = state.scope.names.as_slice().len() as u64;
     let line = shape_line(alloc, &mut state.scope, &mut state.codes, &shape.form)?;
-    let ty = Boxed::new(alloc, line.ty.copy(alloc)?)?;
-    add_node(state, text, ty, line)?;
+    add_line(alloc, state, text, line)?;
     if is_loop(&shape.form) {
         state.loops.add(Loop { position, at: n.at })?;
     }

@@ -4,7 +4,7 @@ ghost use Rattle.std.specs.Prelude.{◌≡◌, ◌<◌, ◌^◌, ◌++◌, [], �
 ghost use Rattle.frp_base.specs.declared.ty.Ty.TheVariants as t;
 ghost use Rattle.frp_expr.specs.Gives.{Gives};
 ghost use Rattle.frp_expr.specs.Raw.{is_lawful, written};
-ghost use Rattle.frp_graph.specs.declared.file.ShapeForm.TheVariants as form;
+ghost use Rattle.frp_file.specs.declared.file.ShapeForm.TheVariants as form;
 ghost use Rattle.frp_type.specs.Core.{is_core_shape};
 ghost use Rattle.frp_expr.specs.Raw.{◌>>=◌ as ◌>>!◌};
 ghost use Rattle.frp_graph.specs.declared.prog.LineShape.TheVariants as line;
@@ -20,7 +20,8 @@ use crate::types::{
 };
 use frp_base::{Boxed, Seq, Ty};
 use frp_expr::{Expr, ExprStop, Raw, RawTy, Scope, Spot, TypeKind, stop};
-use frp_graph::{LineShape, ShapeForm};
+use frp_file::ShapeForm;
+use frp_graph::LineShape;
 use std::alloc::Global;
 
 /// The type of the node that a line makes, and the line's shape.

@@ -13,42 +13,42 @@ use Rattle.frp_expr.specs.Raw.{is_lawful, is_lawful_step}
 use Rattle.frp_lex.specs.declared.token.Kind.TheVariants as k
 use Rattle.frp_lex.specs.Atoms.{fits as fits_token}
 use Rattle.frp_lex.specs.Spelling.{is_lawful as is_lawful_token, are_lawful}
-use Rattle.frp_graph.specs.declared.file.Param.{Param}
-use Rattle.frp_graph.specs.declared.file.ShapeForm.{ShapeForm}
-use Rattle.frp_graph.specs.declared.file.ShapeForm.TheVariants as s
-use Rattle.frp_graph.specs.declared.file.Item.{Item}
-use Rattle.frp_graph.specs.declared.file.ItemForm.{ItemForm}
-use Rattle.frp_graph.specs.declared.file.ItemForm.TheVariants as i
-use Rattle.frp_graph.specs.declared.file.Template.{Template}
-use Rattle.frp_graph.specs.declared.file.Function.{Function}
-use Rattle.frp_graph.specs.declared.file.Decl.{Decl}
-use Rattle.frp_graph.specs.declared.file.Decl.TheVariants as d
-use Rattle.frp_graph.specs.declared.file.Listen.{Listen}
-use Rattle.frp_graph.specs.declared.file.RawSend.{RawSend}
-use Rattle.frp_graph.specs.declared.file.Sender.{Sender}
-use Rattle.frp_graph.specs.declared.file.File.{File}
+use Rattle.frp_file.specs.declared.file.Param.{Param}
+use Rattle.frp_file.specs.declared.file.ShapeForm.{ShapeForm}
+use Rattle.frp_file.specs.declared.file.ShapeForm.TheVariants as s
+use Rattle.frp_file.specs.declared.file.Item.{Item}
+use Rattle.frp_file.specs.declared.file.ItemForm.{ItemForm}
+use Rattle.frp_file.specs.declared.file.ItemForm.TheVariants as i
+use Rattle.frp_file.specs.declared.file.Template.{Template}
+use Rattle.frp_file.specs.declared.file.Function.{Function}
+use Rattle.frp_file.specs.declared.file.Decl.{Decl}
+use Rattle.frp_file.specs.declared.file.Decl.TheVariants as d
+use Rattle.frp_file.specs.declared.file.Listen.{Listen}
+use Rattle.frp_file.specs.declared.file.RawSend.{RawSend}
+use Rattle.frp_file.specs.declared.file.Sender.{Sender}
+use Rattle.frp_file.specs.declared.file.File.{File}
+use Rattle.frp_base.proofs.Booleans.{both_true, true_both}
 use Rattle.frp_write.specs.Writing.{Kinds, joined, parens, form, spot_kind, ty_kinds, ty_kinds_step, expr_kinds, expr_kinds_step, param_kinds, params_kinds, shape_form_kinds, item_kinds, item_form_kinds, template_kinds, function_kinds, decl_kinds, graph_kinds, listen_kinds, send_kinds, sender_kinds, forms_of}
 use Rattle.frp_write.specs.Lawful.{level, is_user_spot, are_user_two, ty_within, ty_within_step, expr_within, within_step, all_within, is_lawful_ty, is_lawful_expr, are_lawful_two, are_lawful_three, is_lawful_param, is_lawful_shape, is_lawful_item_form, is_of_graph, is_of_template, is_lawful_item, is_lawful_body_item, is_lawful_template, is_lawful_function, is_lawful_decl, is_lawful_listen, is_lawful_send, is_lawful_sender, is_lawful_file}
-use Rattle.frp_write.proofs.Placed.{both_true}
 use Rattle.frp_write.proofs.PlacedTypes as types
 use Rattle.frp_write.proofs.PlacedExprs as exprs
-use Rattle.frp_write.proofs.PlacedExprs.{two_true, allowed, all_allowed}
+use Rattle.frp_write.proofs.PlacedExprs.{allowed, all_allowed}
 
 abbrev Lawful : Kinds → Type 0
 Lawful ks = are_lawful ks ≡ true
 
 both : (ks js : Kinds) → Lawful ks → Lawful js → Lawful (ks ++ js)
 both [] js h g = g
-both (t ∷ ks) js h g = let p = both_true (is_lawful_token t) (are_lawful ks) h in two_true (is_lawful_token t) (are_lawful (ks ++ js)) p.0 (both ks js p.1 g)
+both (t ∷ ks) js h g = let p = both_true (is_lawful_token t) (are_lawful ks) h in true_both (is_lawful_token t) (are_lawful (ks ++ js)) p.0 (both ks js p.1 g)
 
 closed : (ks : Kinds) → Lawful ks → Lawful (parens ks)
 closed ks h = both ks (k.Right ∷ []) h refl
 
 headed : (word : List ℕ) (ks : Kinds) → is_lawful_token (k.Name word) ≡ true → Lawful ks → Lawful (form word ks)
-headed word ks g h = closed (k.Name word ∷ ks) (two_true (is_lawful_token (k.Name word)) (are_lawful ks) g h)
+headed word ks g h = closed (k.Name word ∷ ks) (true_both (is_lawful_token (k.Name word)) (are_lawful ks) g h)
 
 named : (x : Spot) (ks : Kinds) → is_user_spot x ≡ true → Lawful ks → Lawful (spot_kind x ∷ ks)
-named x ks g h = two_true (is_lawful_token (spot_kind x)) (are_lawful ks) (both_true _ _ g).0 h
+named x ks g h = true_both (is_lawful_token (spot_kind x)) (are_lawful ks) (both_true _ _ g).0 h
 
 each : {A : Type 0} (kinds_of : A → Kinds) (lawful : A → Bool) → ((x : A) → lawful x ≡ true → Lawful (kinds_of x)) → (xs : List A) → list_all lawful xs ≡ true → Lawful (joined (map kinds_of xs))
 each kinds_of lawful one [] h = refl
@@ -83,15 +83,15 @@ ty_lawful = tys_lawful 16
 -- ---- expressions
 
 fits_so : (z : ℤ) → fits z ≡ true → Lawful (k.Num z ∷ [])
-fits_so (pos n) h = two_true (fits_token (pos n)) true h refl
-fits_so (negsuc n) h = two_true (fits_token (negsuc n)) true h refl
+fits_so (pos n) h = true_both (fits_token (pos n)) true h refl
+fits_so (negsuc n) h = true_both (fits_token (negsuc n)) true h refl
 
 abbrev KnownExpr : ℕ → Type 0
 KnownExpr n = (x : Raw) → allowed n x ≡ true → Lawful (expr_kinds x)
 
 module _ (n : ℕ) (known : KnownExpr n) where
   one_expr : (x : Raw) → is_lawful x ≡ true → expr_within x n ≡ true → Lawful (expr_kinds x)
-  one_expr x h w = known x (two_true (is_lawful x) (expr_within x n) h w)
+  one_expr x h w = known x (true_both (is_lawful x) (expr_within x n) h w)
 
   two_exprs : (x z : Raw) → is_lawful x && is_lawful z ≡ true → expr_within x n && expr_within z n ≡ true → Lawful (expr_kinds x ++ expr_kinds z)
   two_exprs x z h w =
@@ -133,8 +133,8 @@ module _ (n : ℕ) (known : KnownExpr n) where
   expr_layer (o.Int z) h w = fits_so z h
   expr_layer (o.Bool true) h w = refl
   expr_layer (o.Bool false) h w = refl
-  expr_layer (o.Text t) h w = two_true (is_lawful_token (k.Str t)) true h refl
-  expr_layer (o.Name t) h w = two_true (is_lawful_token (k.Name t)) true (both_true _ _ w).0 refl
+  expr_layer (o.Text t) h w = true_both (is_lawful_token (k.Str t)) true h refl
+  expr_layer (o.Name t) h w = true_both (is_lawful_token (k.Name t)) true (both_true _ _ w).0 refl
   expr_layer (o.Neg x) h w = headed (codes "neg") (expr_kinds x) refl (one_expr x h w)
   expr_layer (o.Not x) h w = headed (codes "not") (expr_kinds x) refl (one_expr x h w)
   expr_layer (o.First x) h w = headed (codes "first") (expr_kinds x) refl (one_expr x h w)
@@ -317,13 +317,13 @@ each_form : {A : Type 0} (kinds_of : A → Kinds) (lawful : A → Bool) → ((x 
 each_form kinds_of lawful one [] more h g = g
 each_form kinds_of lawful one (x ∷ xs) more h g =
     let p = both_true (lawful x) (list_all lawful xs) h in
-    two_true (are_lawful (kinds_of x)) (list_all are_lawful (map kinds_of xs ++ more)) (one x p.0) (each_form kinds_of lawful one xs more p.1 g)
+    true_both (are_lawful (kinds_of x)) (list_all are_lawful (map kinds_of xs ++ more)) (one x p.0) (each_form kinds_of lawful one xs more p.1 g)
 
 each_last : {A : Type 0} (kinds_of : A → Kinds) (lawful : A → Bool) → ((x : A) → lawful x ≡ true → Lawful (kinds_of x)) → (xs : List A) → list_all lawful xs ≡ true → list_all are_lawful (map kinds_of xs) ≡ true
 each_last kinds_of lawful one [] h = refl
 each_last kinds_of lawful one (x ∷ xs) h =
     let p = both_true (lawful x) (list_all lawful xs) h in
-    two_true (are_lawful (kinds_of x)) (list_all are_lawful (map kinds_of xs)) (one x p.0) (each_last kinds_of lawful one xs p.1)
+    true_both (are_lawful (kinds_of x)) (list_all are_lawful (map kinds_of xs)) (one x p.0) (each_last kinds_of lawful one xs p.1)
 
 -- the tokens of each form at the top of a lawful file are lawful
 pub forms_lawful : (f : File) → is_lawful_file f ≡ true → list_all are_lawful (forms_of f) ≡ true
@@ -331,6 +331,6 @@ forms_lawful f h =
     let h3 = both_true (list_all is_lawful_decl f.graph.decls && list_all is_lawful_listen f.listens && list_all is_lawful_sender f.senders) (nat_le (length f.senders) 16) h in
     let h2 = both_true (list_all is_lawful_decl f.graph.decls && list_all is_lawful_listen f.listens) (list_all is_lawful_sender f.senders) h3.0 in
     let h1 = both_true (list_all is_lawful_decl f.graph.decls) (list_all is_lawful_listen f.listens) h2.0 in
-    two_true (are_lawful (graph_kinds f.graph)) (list_all are_lawful (map listen_kinds f.listens ++ map sender_kinds f.senders))
+    true_both (are_lawful (graph_kinds f.graph)) (list_all are_lawful (map listen_kinds f.listens ++ map sender_kinds f.senders))
     (headed (codes "graph") (joined (map decl_kinds f.graph.decls)) refl (each decl_kinds is_lawful_decl decl_lawful f.graph.decls h1.0))
     (each_form listen_kinds is_lawful_listen listen_lawful f.listens (map sender_kinds f.senders) h1.1 (each_last sender_kinds is_lawful_sender sender_lawful f.senders h2.1))

@@ -10,8 +10,8 @@ use Rattle.frp_lex.specs.Tokens.{token_at, tokens_from, tokens, front}
 use Rattle.frp_lex.specs.Spelling.{spelled, are_tight, gap, after, spelling, kinds_read, is_lawful, are_lawful}
 use Rattle.frp_lex.specs.Written.{ends_atom, is_parted}
 use Rattle.frp_lex.proofs.Spelled.{token_read, line_parted, all_of}
+use Rattle.frp_base.proofs.Booleans.{both_true}
 use Rattle.frp_write.specs.Writing.{Kinds, joined, lines}
-use Rattle.frp_write.proofs.Placed.{both_true}
 
 -- wherever the bytes stand, they are lexed as tokens of these kinds
 abbrev Lexed : List ℕ → Kinds → Type 0

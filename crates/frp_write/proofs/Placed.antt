@@ -3,6 +3,7 @@ use Rattle.std.proofs.Common.{◌≡◌, ℕ, Bool, true, false, List, [], ◌�
 use Rattle.std.specs.Prelude.{◌&&◌, not}
 use Rattle.std.specs.List.{list_all}
 use Rattle.std.proofs.lemmas.List.{length-map}
+use Rattle.frp_base.proofs.Booleans.{both_true, not_true}
 use Rattle.frp_expr.specs.declared.raw.Spot.{Spot}
 use Rattle.frp_lex.specs.declared.token.Token.{Token}
 use Rattle.frp_lex.specs.Spelling.{kinds}
@@ -18,16 +19,7 @@ pub record Placed {A : Type 0} (Is : A → List Token → Type 0) (bare : A → 
   pub is : Is y ts
   pub same : bare y ≡ bare x
 
-pub both_true : (a b : Bool) → a && b ≡ true → (a ≡ true) × (b ≡ true)
-both_true true true h = (refl, refl)
-both_true true false h = absurd cc
-both_true false b h = absurd cc
-
 -- a name of the user is no literal
-not_true : (b : Bool) → not b ≡ true → b ≡ false
-not_true true h = absurd cc
-not_true false h = refl
-
 pub user : (x : Spot) → is_user x.text ≡ true → (a : ℕ) → IsUser (record { at = a; text = x.text })
 user x h a = not_true (is_literal x.text) (both_true _ _ h).1
 

@@ -8,23 +8,24 @@ use Rattle.frp_expr.specs.declared.raw.Raw.{Raw}
 use Rattle.frp_lex.specs.declared.token.Kind.TheVariants as k
 use Rattle.frp_lex.specs.declared.token.Token.{Token}
 use Rattle.frp_lex.specs.Spelling.{kinds}
-use Rattle.frp_graph.specs.declared.file.Param.{Param}
-use Rattle.frp_graph.specs.declared.file.RawShape.{RawShape}
-use Rattle.frp_graph.specs.declared.file.Item.{Item}
-use Rattle.frp_graph.specs.declared.file.ItemForm.{ItemForm}
-use Rattle.frp_graph.specs.declared.file.ItemForm.TheVariants as i
-use Rattle.frp_graph.specs.declared.file.Give.{Give}
-use Rattle.frp_graph.specs.declared.file.Template.{Template}
-use Rattle.frp_graph.specs.declared.file.Function.{Function}
-use Rattle.frp_graph.specs.declared.file.Decl.{Decl}
-use Rattle.frp_graph.specs.declared.file.Decl.TheVariants as d
+use Rattle.frp_file.specs.declared.file.Param.{Param}
+use Rattle.frp_file.specs.declared.file.RawShape.{RawShape}
+use Rattle.frp_file.specs.declared.file.Item.{Item}
+use Rattle.frp_file.specs.declared.file.ItemForm.{ItemForm}
+use Rattle.frp_file.specs.declared.file.ItemForm.TheVariants as i
+use Rattle.frp_file.specs.declared.file.Give.{Give}
+use Rattle.frp_file.specs.declared.file.Template.{Template}
+use Rattle.frp_file.specs.declared.file.Function.{Function}
+use Rattle.frp_file.specs.declared.file.Decl.{Decl}
+use Rattle.frp_file.specs.declared.file.Decl.TheVariants as d
 use Rattle.frp_form.specs.Items.{item_at}
 use Rattle.frp_form.specs.Grammar.{left_at, right_at, name_at, name_of, IsParam, IsCommonItem, let_item, tie_item, IsItem, common, sink_item, cellsink_item, IsBodyItem, common_in_body, get_item, AreParams, params_are, IsGive, give_is, IsTemplate, template_is, IsFunction, function_is, IsDecl, template_decl, function_decl, item_decl}
+use Rattle.frp_base.proofs.Booleans.{both_true}
 use Rattle.frp_write.specs.Writing.{Kinds, joined, form, spot_kind, ty_kinds, expr_kinds, param_kinds, params_kinds, shape_kinds, item_kinds, item_form_kinds, template_kinds, function_kinds, decl_kinds}
 use Rattle.frp_write.specs.Lawful.{is_user_spot, are_user_two, is_lawful_ty, is_lawful_expr, is_lawful_param, is_lawful_shape, is_lawful_item_form, is_of_graph, is_of_template, is_lawful_item, is_lawful_body_item, is_lawful_template, is_lawful_function, is_lawful_decl}
 use Rattle.frp_write.specs.Places.{unplaced_spot, unplaced_param, unplaced_item, unplaced_give, unplaced_template, unplaced_function, unplaced_decl}
 use Rattle.frp_write.proofs.Splitting.{one, ending, part, opening, closing, closing_two, closing_three}
-use Rattle.frp_write.proofs.Placed.{Placed, both_true, user, all_placed}
+use Rattle.frp_write.proofs.Placed.{Placed, user, all_placed}
 use Rattle.frp_write.proofs.PlacedTypes.{type_placed}
 use Rattle.frp_write.proofs.PlacedExprs.{expr_placed}
 use Rattle.frp_write.proofs.PlacedShapes.{spot_at, spot, last_ty, last_one, param_placed, shape_placed}

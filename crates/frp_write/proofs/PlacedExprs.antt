@@ -24,11 +24,12 @@ use Rattle.frp_form.specs.declared.heads.Ternary.TheVariants as t
 use Rattle.frp_form.specs.Heads.{raw_at, unary_form, binary_form, ternary_form}
 use Rattle.frp_form.specs.Words.{bool_word, unary_word, binary_word, ternary_word}
 use Rattle.frp_form.specs.Grammar.{left_at, name_at, name_of, AreAll, ExprCase, number, text, true_or_false, name, form_of_one, form_of_two, form_of_three, let_form, list_form, nil_form, close_form, IsTypeOf, IsExprOf, IsExpr}
+use Rattle.frp_base.proofs.Booleans.{both_true, true_both}
 use Rattle.frp_write.specs.Writing.{Kinds, joined, form, spot_kind, ty_kinds, expr_kinds, expr_kinds_step}
 use Rattle.frp_write.specs.Lawful.{Levels, level, is_user, is_user_spot, ty_within, within_step, expr_within, all_within, is_lawful_expr}
 use Rattle.frp_write.specs.Places.{unplaced_spot, unplaced_step, unplaced_expr}
 use Rattle.frp_write.proofs.Splitting.{one, ending, opening, closing, closing_two, closing_three}
-use Rattle.frp_write.proofs.Placed.{Placed, both_true, user, all_placed, as_long}
+use Rattle.frp_write.proofs.Placed.{Placed, user, all_placed, as_long}
 use Rattle.frp_write.proofs.PlacedTypes.{types_placed}
 
 -- one layer of an expression
@@ -78,15 +79,12 @@ same_by a at w l m r e = ap (λ (v : RawForm). unplaced_expr (raw_at a v)) (sym 
 abbrev pub allowed : ℕ → Raw → Bool
 allowed n x = is_lawful x && expr_within x n
 
-pub two_true : (a b : Bool) → a ≡ true → b ≡ true → a && b ≡ true
-two_true a b h g = rw (h, g) refl
-
 pub all_allowed : (n : ℕ) (xs : List Raw) → list_all (λ (a : Bool). a) (map is_lawful xs) ≡ true → all_within (map expr_within xs) n ≡ true → list_all (allowed n) xs ≡ true
 all_allowed n [] h w = refl
 all_allowed n (x ∷ xs) h w =
     let p = both_true (is_lawful x) (list_all (λ (a : Bool). a) (map is_lawful xs)) h in
     let q = both_true (expr_within x n) (all_within (map expr_within xs) n) w in
-    two_true (allowed n x) (list_all (allowed n) xs) (two_true (is_lawful x) (expr_within x n) p.0 q.0) (all_allowed n xs p.1 q.1)
+    true_both (allowed n x) (list_all (allowed n) xs) (true_both (is_lawful x) (expr_within x n) p.0 q.0) (all_allowed n xs p.1 q.1)
 
 abbrev PlacedExpr : ℕ → Raw → List Token → Type 0
 PlacedExpr n = Placed (IsExprOf n) unplaced_expr
@@ -102,7 +100,7 @@ module _ (n : ℕ) (known : Known n) where
   Result at l = Placed Case unplaced_expr (raw_at at (roll-RawForm l))
 
   known_by : (x : Raw) → is_lawful x ≡ true → expr_within x n ≡ true → (ts : List Token) → kinds ts ≡ expr_kinds x → PlacedExpr n x ts
-  known_by x h w ts e = known x (two_true (is_lawful x) (expr_within x n) h w) ts e
+  known_by x h w ts e = known x (true_both (is_lawful x) (expr_within x n) h w) ts e
 
   each_known : (xs : List Raw) → list_all (λ (a : Bool). a) (map is_lawful xs) ≡ true → all_within (map expr_within xs) n ≡ true → (ts : List Token) → kinds ts ≡ joined (map expr_kinds xs) → Placed (AreAll (IsExprOf n)) (map unplaced_expr) xs ts
   each_known xs h w = all_placed (IsExprOf n) unplaced_expr expr_kinds (allowed n) known xs (all_allowed n xs h w)

@@ -7,19 +7,20 @@ use Rattle.frp_expr.specs.declared.raw.Raw.{Raw}
 use Rattle.frp_lex.specs.declared.token.Kind.TheVariants as k
 use Rattle.frp_lex.specs.declared.token.Token.{Token}
 use Rattle.frp_lex.specs.Spelling.{kinds}
-use Rattle.frp_graph.specs.declared.file.Decl.{Decl}
-use Rattle.frp_graph.specs.declared.file.Graph.{Graph}
-use Rattle.frp_graph.specs.declared.file.Listen.{Listen}
-use Rattle.frp_graph.specs.declared.file.RawSend.{RawSend}
-use Rattle.frp_graph.specs.declared.file.Sender.{Sender}
-use Rattle.frp_graph.specs.declared.file.File.{File}
+use Rattle.frp_file.specs.declared.file.Decl.{Decl}
+use Rattle.frp_file.specs.declared.file.Graph.{Graph}
+use Rattle.frp_file.specs.declared.file.Listen.{Listen}
+use Rattle.frp_file.specs.declared.file.RawSend.{RawSend}
+use Rattle.frp_file.specs.declared.file.Sender.{Sender}
+use Rattle.frp_file.specs.declared.file.File.{File}
 use Rattle.frp_form.specs.Grammar.{left_at, name_at, name_of, IsDecl, IsGraph, graph_is, IsListen, listen_is, IsSend, send_is, IsSender, sender_is, IsFile, file_is}
+use Rattle.frp_base.proofs.Booleans.{both_true}
 use Rattle.frp_write.specs.Writing.{Kinds, joined, spot_kind, expr_kinds, decl_kinds, graph_kinds, listen_kinds, send_kinds, sender_kinds, forms_of}
 use Rattle.frp_write.specs.Lawful.{is_user_spot, is_lawful_expr, is_lawful_decl, is_lawful_listen, is_lawful_send, is_lawful_sender, is_lawful_file}
 use Rattle.frp_write.specs.Places.{unplaced_spot, unplaced_decl, unplaced_graph, unplaced_listen, unplaced_send, unplaced_sender, unplaced}
 use Rattle.frp_write.specs.RoundTrip.{in_check}
 use Rattle.frp_write.proofs.Splitting.{ending, part, opening, closing}
-use Rattle.frp_write.proofs.Placed.{Placed, both_true, user, all_placed, as_long}
+use Rattle.frp_write.proofs.Placed.{Placed, user, all_placed, as_long}
 use Rattle.frp_write.proofs.PlacedShapes.{spot_at, spot, last_one}
 use Rattle.frp_write.proofs.PlacedDecls.{decl_placed}
 

@@ -8,10 +8,10 @@ use Rattle.frp_expr.specs.declared.raw.Raw.{Raw}
 use Rattle.frp_lex.specs.declared.token.Kind.TheVariants as k
 use Rattle.frp_lex.specs.declared.token.Token.{Token}
 use Rattle.frp_lex.specs.Spelling.{kinds}
-use Rattle.frp_graph.specs.declared.file.Param.{Param}
-use Rattle.frp_graph.specs.declared.file.RawShape.{RawShape}
-use Rattle.frp_graph.specs.declared.file.ShapeForm.{ShapeForm}
-use Rattle.frp_graph.specs.declared.file.ShapeForm.TheVariants as s
+use Rattle.frp_file.specs.declared.file.Param.{Param}
+use Rattle.frp_file.specs.declared.file.RawShape.{RawShape}
+use Rattle.frp_file.specs.declared.file.ShapeForm.{ShapeForm}
+use Rattle.frp_file.specs.declared.file.ShapeForm.TheVariants as s
 use Rattle.frp_form.specs.declared.shape_heads.TyShape.{TyShape}
 use Rattle.frp_form.specs.declared.shape_heads.TyShape.TheVariants as t
 use Rattle.frp_form.specs.declared.shape_heads.UnaryShape.{UnaryShape}
@@ -28,11 +28,12 @@ use Rattle.frp_form.specs.ShapeHeads.{typed_shape, unary_shape, binary_shape, ma
 use Rattle.frp_form.specs.Shapes.{shape_at}
 use Rattle.frp_form.specs.Words.{typed_word, unary_shape_word, binary_shape_word, map_word, join_word, fold_word}
 use Rattle.frp_form.specs.Grammar.{left_at, right_at, name_at, name_of, IsType, IsExpr, IsParam, param_is, IsShape, typed, shape_of_one, shape_of_two, mapping, joining, folding, lifting, executing}
+use Rattle.frp_base.proofs.Booleans.{both_true}
 use Rattle.frp_write.specs.Writing.{Kinds, joined, form, spot_kind, ty_kinds, expr_kinds, param_kinds, shape_kinds, shape_form_kinds}
 use Rattle.frp_write.specs.Lawful.{is_user_spot, are_user_two, is_lawful_ty, is_lawful_expr, are_lawful_two, are_lawful_three, is_lawful_param, is_lawful_shape}
 use Rattle.frp_write.specs.Places.{unplaced_spot, unplaced_ty, unplaced_expr, unplaced_param, unplaced_shape, unplaced_shape_form}
 use Rattle.frp_write.proofs.Splitting.{one, part, opening, closing, closing_two, closing_three}
-use Rattle.frp_write.proofs.Placed.{Placed, both_true, user, all_placed}
+use Rattle.frp_write.proofs.Placed.{Placed, user, all_placed}
 use Rattle.frp_write.proofs.PlacedTypes.{type_placed}
 use Rattle.frp_write.proofs.PlacedExprs.{expr_placed}
 

@@ -17,11 +17,12 @@ use Rattle.frp_form.specs.declared.ty_word.BinaryTy.TheVariants as b
 use Rattle.frp_form.specs.Types.{raw_ty, atom_ty, unary_ty, binary_ty}
 use Rattle.frp_form.specs.Words.{atom_word, unary_ty_word, binary_ty_word}
 use Rattle.frp_form.specs.Grammar.{word_at, left_at, TypeCase, atom, type_of_one, type_of_two, IsTypeOf, IsType}
+use Rattle.frp_base.proofs.Booleans.{both_true}
 use Rattle.frp_write.specs.Writing.{Kinds, parens, ty_kinds, ty_kinds_step}
 use Rattle.frp_write.specs.Lawful.{Levels, level, ty_within, ty_within_step, is_lawful_ty}
 use Rattle.frp_write.specs.Places.{unplaced_ty}
 use Rattle.frp_write.proofs.Splitting.{one, ending, closing, closing_two}
-use Rattle.frp_write.proofs.Placed.{Placed, both_true}
+use Rattle.frp_write.proofs.Placed.{Placed}
 
 -- one layer of a type
 abbrev pub Layer : Type 0

@@ -37,11 +37,11 @@ use Rattle.frp_form.specs.Types.{raw_ty, atom_ty, unary_ty, binary_ty}
 use Rattle.frp_form.specs.Heads.{raw_at, unary_form, binary_form, ternary_form}
 use Rattle.frp_form.specs.Words.{unary_word, binary_word, ternary_word}
 use Rattle.frp_form.specs.Grammar.{left_at, right_at, name_at, name_of, IsUser, AreAll, none, more, TypeCase, atom, type_of_one, type_of_two, IsTypeOf, IsType, ExprCase, number, text, true_or_false, name, form_of_one, form_of_two, form_of_three, let_form, list_form, nil_form, close_form, IsExprOf, IsExpr}
+use Rattle.frp_base.proofs.Booleans.{both_true, true_both}
 use Rattle.frp_write.specs.Lawful.{is_user_spot, ty_within, ty_within_step, expr_within, within_step, all_within, is_lawful_ty, is_lawful_expr}
-use Rattle.frp_write.proofs.Placed.{both_true}
 use Rattle.frp_write.proofs.PlacedTypes as types
 use Rattle.frp_write.proofs.PlacedExprs as exprs
-use Rattle.frp_write.proofs.PlacedExprs.{two_true, allowed}
+use Rattle.frp_write.proofs.PlacedExprs.{allowed}
 
 -- tokens that an input can have
 abbrev pub Known : List Token → Type 0
@@ -57,7 +57,7 @@ apart [] vs h = (refl, h)
 apart (u ∷ us) vs h =
     let p = first u (us ++ vs) h in
     let q = apart us vs p.1 in
-    (two_true (is_lawful_token u.kind) (are_lawful (kinds us)) p.0 q.0, q.1)
+    (true_both (is_lawful_token u.kind) (are_lawful (kinds us)) p.0 q.0, q.1)
 
 -- the parts of a form
 pub formed : (a b c : ℕ) (word : List ℕ) (us : List Token) → Known (left_at a ∷ name_at b word ∷ us ++ right_at c ∷ []) → Known us
@@ -67,14 +67,14 @@ formed a b c word us h =
 
 -- a name of the user
 pub user_name : (x : Spot) → IsUser x → is_lawful_token (name_of x).kind ≡ true → is_user_spot x ≡ true
-user_name x h g = two_true (is_lawful_token (k.Name x.text)) (not (is_literal x.text)) g (rw h refl)
+user_name x h g = true_both (is_lawful_token (k.Name x.text)) (not (is_literal x.text)) g (rw h refl)
 
 -- what all are is what each is
 pub each : {A : Type 0} (Is : A → List Token → Type 0) (lawful : A → Bool) → ((x : A) (ts : List Token) → Is x ts → Known ts → lawful x ≡ true) → (xs : List A) (ts : List Token) → AreAll Is xs ts → Known ts → list_all lawful xs ≡ true
 each Is lawful one xs ts none h = refl
 each Is lawful one xs ts (more y ys us vs is all) h =
     let p = apart us vs h in
-    two_true (lawful y) (list_all lawful ys) (one y us is p.0) (each Is lawful one ys vs all p.1)
+    true_both (lawful y) (list_all lawful ys) (one y us is p.0) (each Is lawful one ys vs all p.1)
 
 -- ---- types
 
@@ -98,7 +98,7 @@ binary_within n at b.Fun x z h = made_ty n at (tf.Fun x z) (to.Fun x z) (tf.roll
 case_within : (n : ℕ) → ((x : RawTy) (ts : List Token) → IsTypeOf n x ts → ty_within x n ≡ true) → (x : RawTy) (ts : List Token) → TypeCase (IsTypeOf n) x ts → ty_within x (suc n) ≡ true
 case_within n part x ts (atom at op) = atom_within n at op
 case_within n part x ts (type_of_one at e c op z xs is) = unary_within n at op z (part z xs is)
-case_within n part x ts (type_of_two at e c op y z ys zs is js) = binary_within n at op y z (two_true (ty_within y n) (ty_within z n) (part y ys is) (part z zs js))
+case_within n part x ts (type_of_two at e c op y z ys zs is js) = binary_within n at op y z (true_both (ty_within y n) (ty_within z n) (part y ys is) (part z zs js))
 
 types_within : (n : ℕ) (x : RawTy) (ts : List Token) → IsTypeOf n x ts → ty_within x n ≡ true
 unfolding IsTypeOf
@@ -112,7 +112,7 @@ type_allowed = types_within 16
 
 made : (n at : ℕ) (w : RawForm) (l : exprs.Layer) → roll-RawForm l ≡ w → is_lawful_step (exprs.lawful_through l) ≡ true → within_step (exprs.within_through l) n ≡ true → allowed (suc n) (raw_at at w) ≡ true
 made n at w l r h g =
-    two_true (is_lawful (raw_at at w)) (expr_within (raw_at at w) (suc n))
+    true_both (is_lawful (raw_at at w)) (expr_within (raw_at at w) (suc n))
     (ap (λ (v : RawForm). is_lawful (raw_at at v)) (sym r) ∙ exprs.lawful_layer at l ∙ h)
     (ap (λ (v : RawForm). expr_within (raw_at at v) (suc n)) (sym r) ∙ exprs.within_layer (suc n) at l ∙ g)
 
@@ -158,7 +158,7 @@ all_parts n (x ∷ xs) h =
     let p = both_true (allowed n x) (list_all (allowed n) xs) h in
     let q = both_true (is_lawful x) (expr_within x n) p.0 in
     let r = all_parts n xs p.1 in
-    (two_true (is_lawful x) (list_all (λ (a : Bool). a) (map is_lawful xs)) q.0 r.0, two_true (expr_within x n) (all_within (map expr_within xs) n) q.1 r.1)
+    (true_both (is_lawful x) (list_all (λ (a : Bool). a) (map is_lawful xs)) q.0 r.0, true_both (expr_within x n) (all_within (map expr_within xs) n) q.1 r.1)
 
 abbrev Allows : ℕ → Type 0
 Allows n = (x : Raw) (ts : List Token) → IsExprOf n x ts → Known ts → allowed n x ≡ true
@@ -172,7 +172,7 @@ module _ (n : ℕ) (part : Allows n) where
       let p = apart xs zs h in
       let q = parts_of x xs is p.0 in
       let r = parts_of z zs js p.1 in
-      (two_true (is_lawful x) (is_lawful z) q.0 r.0, two_true (expr_within x n) (expr_within z n) q.1 r.1)
+      (true_both (is_lawful x) (is_lawful z) q.0 r.0, true_both (expr_within x n) (expr_within z n) q.1 r.1)
 
   case_allowed : (x : Raw) (ts : List Token) → ExprCase (IsTypeOf n) (IsExprOf n) x ts → Known ts → allowed (suc n) x ≡ true
   case_allowed x ts (number at z) h = made n at (f.Int z) (o.Int z) (f.rolls-Int z) (fits_so z (both_true (fits_token z) true h).0) refl
@@ -189,22 +189,22 @@ module _ (n : ℕ) (part : Allows n) where
       let g = apart (ys ++ zs) vs (formed at e c (ternary_word op) (ys ++ zs ++ vs) h) in
       let p = both_parts y z ys zs is js g.0 in
       let q = parts_of v vs ks g.1 in
-      ternary_allowed n at op y z v (two_true (is_lawful y && is_lawful z) (is_lawful v) p.0 q.0) (two_true (expr_within y n && expr_within z n) (expr_within v n) p.1 q.1)
+      ternary_allowed n at op y z v (true_both (is_lawful y && is_lawful z) (is_lawful v) p.0 q.0) (true_both (expr_within y n && expr_within z n) (expr_within v n) p.1 q.1)
   case_allowed x ts (let_form at e c v y z ys zs is js ks) h =
       let g = first (name_of v) (ys ++ zs) (formed at e c (codes "let") (name_of v ∷ ys ++ zs) h) in
       let p = both_parts y z ys zs js ks g.1 in
       let w = both_true (expr_within y n) (expr_within z n) p.1 in
-      made n at (f.Let v y z) (o.Let v y z) (f.rolls-Let v y z) p.0 (two_true (is_user_spot v && expr_within y n) (expr_within z n) (two_true (is_user_spot v) (expr_within y n) (user_name v is g.0) w.0) w.1)
+      made n at (f.Let v y z) (o.Let v y z) (f.rolls-Let v y z) p.0 (true_both (is_user_spot v && expr_within y n) (expr_within z n) (true_both (is_user_spot v) (expr_within y n) (user_name v is g.0) w.0) w.1)
   case_allowed x ts (list_form at e c xs us some few all) h =
       let p = all_parts n xs (each (IsExprOf n) (allowed n) part xs us all (formed at e c (codes "list") us h)) in
       made n at (f.List xs) (o.List xs) (f.rolls-List xs)
-      (two_true (list_all (λ (a : Bool). a) (map is_lawful xs) && nat_le 1 (length (map is_lawful xs))) (nat_le (length (map is_lawful xs)) most)
-      (two_true (list_all (λ (a : Bool). a) (map is_lawful xs)) (nat_le 1 (length (map is_lawful xs))) p.0 (some_items xs some)) (few_items xs few)) p.1
+      (true_both (list_all (λ (a : Bool). a) (map is_lawful xs) && nat_le 1 (length (map is_lawful xs))) (nat_le (length (map is_lawful xs)) most)
+      (true_both (list_all (λ (a : Bool). a) (map is_lawful xs)) (nat_le 1 (length (map is_lawful xs))) p.0 (some_items xs some)) (few_items xs few)) p.1
   case_allowed x ts (nil_form at e c y ys is) h = made n at (f.Nil y) (o.Nil y) (f.rolls-Nil y) refl (types_within n y ys is)
   case_allowed x ts (close_form at e c v xs us is all) h =
       let g = first (name_of v) us (formed at e c (codes "close") (name_of v ∷ us) h) in
       let p = all_parts n xs (each (IsExprOf n) (allowed n) part xs us all g.1) in
-      made n at (f.Close v xs) (o.Close v xs) (f.rolls-Close v xs) p.0 (two_true (is_user_spot v) (all_within (map expr_within xs) n) (user_name v is g.0) p.1)
+      made n at (f.Close v xs) (o.Close v xs) (f.rolls-Close v xs) p.0 (true_both (is_user_spot v) (all_within (map expr_within xs) n) (user_name v is g.0) p.1)
 
 exprs_allowed : (n : ℕ) → Allows n
 unfolding IsExprOf

@@ -4,7 +4,7 @@ use Rattle.frp_lex.specs.declared.token.Token.{Token}
 use Rattle.frp_lex.specs.Gives.{Outcome}
 use Rattle.frp_lex.specs.Tokens.{tokens}
 use Rattle.frp_lex.specs.Spelling.{kinds, kinds_read}
-use Rattle.frp_graph.specs.declared.file.File.{File}
+use Rattle.frp_file.specs.declared.file.File.{File}
 use Rattle.frp_form.specs.Gives as form
 use Rattle.frp_form.specs.File.{file_of}
 use Rattle.frp_write.specs.Writing.{Kinds, joined, forms_of, canonical}

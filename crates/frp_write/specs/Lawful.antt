@@ -11,20 +11,20 @@ use Rattle.frp_expr.specs.declared.raw.RawForm.TheOpen as o
 use Rattle.frp_expr.specs.Raw.{is_lawful}
 use Rattle.frp_lex.specs.declared.token.Kind.TheVariants as k
 use Rattle.frp_lex.specs.Spelling.{is_lawful as is_lawful_token}
-use Rattle.frp_graph.specs.declared.file.File.{File}
-use Rattle.frp_graph.specs.declared.file.Decl.{Decl}
-use Rattle.frp_graph.specs.declared.file.Decl.TheVariants as d
-use Rattle.frp_graph.specs.declared.file.Template.{Template}
-use Rattle.frp_graph.specs.declared.file.Function.{Function}
-use Rattle.frp_graph.specs.declared.file.Param.{Param}
-use Rattle.frp_graph.specs.declared.file.Item.{Item}
-use Rattle.frp_graph.specs.declared.file.ItemForm.{ItemForm}
-use Rattle.frp_graph.specs.declared.file.ItemForm.TheVariants as i
-use Rattle.frp_graph.specs.declared.file.ShapeForm.{ShapeForm}
-use Rattle.frp_graph.specs.declared.file.ShapeForm.TheVariants as s
-use Rattle.frp_graph.specs.declared.file.Listen.{Listen}
-use Rattle.frp_graph.specs.declared.file.Sender.{Sender}
-use Rattle.frp_graph.specs.declared.file.RawSend.{RawSend}
+use Rattle.frp_file.specs.declared.file.File.{File}
+use Rattle.frp_file.specs.declared.file.Decl.{Decl}
+use Rattle.frp_file.specs.declared.file.Decl.TheVariants as d
+use Rattle.frp_file.specs.declared.file.Template.{Template}
+use Rattle.frp_file.specs.declared.file.Function.{Function}
+use Rattle.frp_file.specs.declared.file.Param.{Param}
+use Rattle.frp_file.specs.declared.file.Item.{Item}
+use Rattle.frp_file.specs.declared.file.ItemForm.{ItemForm}
+use Rattle.frp_file.specs.declared.file.ItemForm.TheVariants as i
+use Rattle.frp_file.specs.declared.file.ShapeForm.{ShapeForm}
+use Rattle.frp_file.specs.declared.file.ShapeForm.TheVariants as s
+use Rattle.frp_file.specs.declared.file.Listen.{Listen}
+use Rattle.frp_file.specs.declared.file.Sender.{Sender}
+use Rattle.frp_file.specs.declared.file.RawSend.{RawSend}
 use Rattle.frp_form.specs.Tokens.{is_literal}
 
 -- a name of the user: a token can be it, and it is no literal

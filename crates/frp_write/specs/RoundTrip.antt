@@ -3,7 +3,7 @@ use Rattle.std.specs.Prelude.{◌≡◌, ℕ, false, List, IsTrue, Ok}
 use Rattle.frp_lex.specs.declared.token.Token.{Token}
 use Rattle.frp_lex.specs.Spelling.{kinds}
 use Rattle.frp_lex.specs.Tokens.{tokens}
-use Rattle.frp_graph.specs.declared.file.File.{File}
+use Rattle.frp_file.specs.declared.file.File.{File}
 use Rattle.frp_form.specs.declared.reading.Reading.{Reading}
 use Rattle.frp_form.specs.File.{file_of}
 use Rattle.frp_write.specs.Writing.{joined, forms_of, canonical}

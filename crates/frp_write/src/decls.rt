@@ -12,7 +12,7 @@ use crate::tokens::{
 use crate::types::write_ty;
 use frp_base::{Memory, Seq};
 use frp_expr::{Raw, RawTy, Spot};
-use frp_graph::{Decl, Function, Give, Item, ItemForm, Param, RawShape, Template};
+use frp_file::{Decl, Function, Give, Item, ItemForm, Param, RawShape, Template};
 use frp_lex::Kind;
 use std::alloc::Global;
 

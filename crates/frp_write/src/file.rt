@@ -7,7 +7,7 @@ ghost use Rattle.frp_write.specs.Writing.{lines, canonical};
 use crate::exprs::write_last;
 use crate::tokens::{Written, write_each, write_head, write_named, write_right};
 use frp_base::{Memory, Seq, Text};
-use frp_graph::{File, Graph, Listen, RawSend, Sender};
+use frp_file::{File, Graph, Listen, RawSend, Sender};
 use frp_lex::{Kind, Token, spell};
 use std::alloc::Global;
 

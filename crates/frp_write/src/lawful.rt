@@ -9,10 +9,10 @@ ghost use Rattle.frp_write.specs.Lawful as spec;
 
 use frp_base::Text;
 use frp_expr::{Raw, RawForm, RawTy, Spot, TyForm, is_lawful};
-use frp_form::{LEVELS, is_literal};
-use frp_graph::{
+use frp_file::{
     Decl, File, Function, Item, ItemForm, Listen, Param, RawSend, Sender, ShapeForm, Template,
 };
+use frp_form::{LEVELS, is_literal};
 
 /// The most senders of a file.
 const SENDERS: usize = 16;

@@ -9,7 +9,7 @@ use crate::tokens::{write_head, write_joint, write_left, write_named, write_righ
 use crate::types::write_ty;
 use frp_base::{Memory, Seq};
 use frp_expr::{Raw, RawTy, Spot};
-use frp_graph::{Param, RawShape, ShapeForm};
+use frp_file::{Param, RawShape, ShapeForm};
 use frp_lex::Kind;
 use std::alloc::Global;
 

@@ -1,6 +1,7 @@
 use super::*;
 use frp_base::{Name, Seq, Time, Ty};
-use frp_graph::{Key, Lam};
+use frp_graph::Lam;
+use frp_history::Key;
 use std::test::Fail;
 
 fn born(alloc: Global, item: u64, shape: Shape, first: Option<Val>) -> Result<Node, Memory> {

@@ -1,15 +1,15 @@
 use Rattle.frp_graph.specs.TypedProg.{IsTypedProg}
-use Rattle.std.proofs.Common.{take, drop, [], ◌∷◌, length, refl, rules, arith}
+use Rattle.std.proofs.Common.{[], ◌∷◌, length, refl, rules, arith}
 use Rattle.std.specs.Prelude.{slice_index, ◌==◌, if◌then◌else◌}
 use Rattle.frp_base.specs.Name.{item_of}
 use Rattle.frp_base.specs.declared.ty.Ty.TheVariants as t
-use Rattle.frp_rows.specs.Instances.{prog, trace, entries, script}
+use Rattle.frp_rows.specs.Instances.{prog, first, third, trace, entries, listened, script}
 use Rattle.frp_rows.proofs.Computing.{computing, typing}
 use Rattle.frp_rows.proofs.Traces as tests
 use Rattle.frp_rows.proofs.instances.Goals as goal
 
 abbrev typed : IsTypedProg prog
-typed = record { funs = refl; patterns = record { param = t.Int; kept = t.Stream t.Int ∷ []; gives = t.Cell t.Int; depth = 1 } ∷ record { param = t.Cell t.Int; kept = []; gives = t.Int; depth = 1 } ∷ []; templates = simp typing; lines = simp typing; no_param = refl; no_kept = refl; gives_nothing = refl }
+typed = record { funs = refl; templates = simp typing; lines = simp typing; nodes_only = refl; joins = refl; no_param = refl; no_kept = refl; gives_nothing = refl }
 
 pub returns : goal.returns
 returns c = record {
@@ -21,21 +21,17 @@ returns c = record {
     few_entries = omega arith;
     replies = search (rules, computing, tests.free);
   };
-  session = record { joins = take 2 entries; sends = take 2 (drop 2 entries); leaves = drop 4 entries; in_order = refl; joined = refl; sent = tests.one_script script (take 2 (drop 2 entries)) refl refl; only_scripts = refl; left = refl };
-  well_formed = record {
-    program = typed;
-    firsts = simp typing;
-    facts = simp typing;
-    shapes = (
-      simp typing,
+  session = tests.session listened script entries 2 2 refl refl refl refl refl refl;
+  well_formed = tests.well_formed prog (first ∷ []) third typed (
+    simp typing,
+    (
+      (record { param = t.Int; kept = t.Stream t.Int ∷ []; gives = t.Cell t.Int; depth = 1 }, simp typing, refl, simp typing, refl),
       (
-        (record { param = t.Int; kept = t.Stream t.Int ∷ []; gives = t.Cell t.Int; depth = 1 }, refl, refl, simp typing, refl),
-        (
-          (record { param = t.Cell t.Int; kept = []; gives = t.Int; depth = 1 }, refl, refl, refl, refl),
-          (simp typing, ((t.Cell t.Int, refl, refl), ((refl, simp typing), ((t.Int, refl, refl), tt)))),
-        ),
+        (record { param = t.Cell t.Int; kept = []; gives = t.Int; depth = 1 }, simp typing, refl, refl, refl),
+        (simp typing, ((t.Cell t.Int, refl, refl), ((refl, simp typing), ((t.Int, refl, refl), tt)))),
       ),
-    );
-  };
+    ),
+  )
+      (simp typing) refl;
   candidates = refl;
 }

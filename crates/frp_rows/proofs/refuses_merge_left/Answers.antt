@@ -1,6 +1,7 @@
-use Rattle.std.proofs.Common.{◌≡◌, ℕ, arith}
+use Rattle.frp_rows.specs.Writing.{item}
+use Rattle.std.proofs.Common.{◌≡◌, ℕ, refl, arith}
 use Rattle.frp_rows.proofs.Computing.{same_num}
 use Rattle.frp_rows.proofs.refuses_merge_left.Goals as goal
 
 pub returns : goal.returns
-returns c = λ h. let e : ◌≡◌ {A = ℕ} 16 7 = same_num _ _ h.1.1.0.1.1.1.1.0 in absurd (omega arith)
+returns c = λ h. let e : ◌≡◌ {A = ℕ} 16 7 = same_num _ _ (h.1.1.0 (item 4) _ refl) in absurd (omega arith)

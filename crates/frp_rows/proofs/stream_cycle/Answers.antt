@@ -1,39 +1,44 @@
-use Rattle.std.proofs.Common.{take, drop, List, [], ◌∷◌, refl, rules, arith}
+use Rattle.std.proofs.Common.{List, [], ◌∷◌, refl, rules, arith, Bool, inr}
+use Rattle.frp_base.specs.declared.name.Name.{Name}
 use Rattle.frp_base.specs.Name.{item_of}
 use Rattle.frp_graph.specs.declared.evidence.Phase.TheVariants as phase
 use Rattle.frp_graph.specs.declared.trace.Moment.{Moment}
-use Rattle.frp_graph.specs.Equations.{Sent}
-use Rattle.frp_graph.specs.Evidence.{IsTrueEvidence, last_live, last_sight}
-use Rattle.frp_rows.specs.Writing.{usual, item, num, stream_of}
-use Rattle.frp_rows.specs.StreamCycle.{prog, first, second, trace, entries, script, evidence}
+use Rattle.frp_graph.specs.declared.trace.Sent.{Sent}
+use Rattle.frp_graph.specs.Evidence.{IsTrueEvidence, is_below, ranks_lower}
+use Rattle.frp_rows.specs.Writing.{usual, num, stream_of, sent_at}
+use Rattle.frp_rows.specs.StreamCycle.{prog, first, second, trace, entries, listened, script, evidence}
 use Rattle.frp_rows.proofs.Computing.{computing, typing}
 use Rattle.frp_rows.proofs.Traces as tests
+use Rattle.frp_rows.proofs.Evidences as evidences
 use Rattle.frp_rows.proofs.stream_cycle.Goals as goal
 
 -- the sends up to the refused one, and the moments before it
 abbrev sent : List Sent
-sent = record { place = 2; sink = item 1; value = num 1 } ∷ record { place = 3; sink = item 0; value = stream_of 4 } ∷ []
+sent = sent_at 2 1 (num 1) ∷ sent_at 3 0 (stream_of 4) ∷ []
 
 abbrev past : List Moment
 past = first ∷ second ∷ []
 
+abbrev below : Name → Bool
+below = is_below evidence.ranks evidence.level
+
 shown : IsTrueEvidence prog usual sent 3 past evidence
-shown = record {
-  reached = tests.reached prog usual sent 3 past evidence (λ past n. item_of n) refl refl refl (search (rules, computing), (search (rules, computing), tt)) (simp computing) (omega arith) (omega arith) refl refl (omega arith);
-  ranked = record { once = refl; each_live = refl; only_live = refl };
-  settled = record { links_lower = simp computing; equations = search (rules, computing); facts_below = refl; fired_rise = tests.rises _ _ refl };
+shown = inr (record {
+  reached = evidences.reached prog usual sent 3 past evidence.done evidence.last (λ past n. item_of n) refl refl refl (search (rules, computing), (search (rules, computing), tt)) (simp computing) (omega arith) (omega arith) refl refl (omega arith);
+  ranked = evidences.ranked past evidence.last evidence.ranks refl refl refl;
+  settled = evidences.settled past evidence.last prog sent below (ranks_lower evidence.ranks) (simp computing) (search (rules, computing)) refl refl;
   firsts = record {
     firsts = tt;
-    chainless = λ _. tests.phase_chainless item_of (last_live past evidence) (last_sight past evidence) phase.Birth refl;
-    no_missing_read = search (rules, computing);
+    chainless = λ _. tests.phase_chainless item_of past evidence.last phase.Birth refl;
+    no_missing_read = evidences.reads past evidence.last prog sent below refl;
   };
-  births = record { consists = tt; those_below = refl; file = refl; born_rise = tests.rises _ _ refl };
-  cause = record { closed = simp computing; all_below = refl };
-}
+  births = evidences.whole past evidence.last prog sent below usual tt refl refl refl refl;
+  cause = record { closed = simp computing; all_below = λ _. evidences.all_below past evidence.last prog sent below refl };
+})
 
 pub returns : goal.returns
 returns c = record {
-  typed = record { funs = refl; patterns = []; templates = refl; lines = simp typing; no_param = refl; no_kept = refl; gives_nothing = refl };
+  typed = tests.typed prog.codes prog.body.lines (simp typing) refl;
   legal = record {
     is_trace = tests.is_trace _ _ _ refl refl refl (search (rules, computing), (search (rules, computing), (search (rules, computing), tt)));
     sound = tests.sound prog (λ past n. item_of n) [] trace (simp computing);
@@ -41,5 +46,5 @@ returns c = record {
     few_entries = omega arith;
     replies = (search (rules, computing, tests.free), (search (rules, computing), (simp computing ((refl, shown), refl), (search (rules, computing), (search (rules, computing), tt)))));
   };
-  session = record { joins = take 1 entries; sends = take 3 (drop 1 entries); leaves = drop 4 entries; in_order = refl; joined = refl; sent = tests.one_script script (take 3 (drop 1 entries)) refl refl; only_scripts = refl; left = refl };
+  session = tests.session listened script entries 1 3 refl refl refl refl refl refl;
 }

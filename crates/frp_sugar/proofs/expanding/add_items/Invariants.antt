@@ -1,5 +1,5 @@
 use Rattle.std.proofs.Common.{◌≡◌, ◌++◌, map}
-use Rattle.frp_graph.specs.declared.file.Decl.TheVariants as d
+use Rattle.frp_file.specs.declared.file.Decl.TheVariants as d
 use Rattle.frp_sugar.proofs.expanding.add_items.Given as goal
 
 abbrev pub invariant-loop-i : goal.invariant-loop-i

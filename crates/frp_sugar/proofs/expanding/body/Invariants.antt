@@ -1,5 +1,5 @@
 use Rattle.std.proofs.Common.{◌≡◌, ◌+◌, ◌++◌, drop, map}
-use Rattle.frp_graph.specs.declared.file.Decl.TheVariants as d
+use Rattle.frp_file.specs.declared.file.Decl.TheVariants as d
 use Rattle.frp_sugar.specs.Expanding.{body_items, body_functions, body_hidden_functions}
 use Rattle.frp_sugar.proofs.expanding.body.Given as goal
 

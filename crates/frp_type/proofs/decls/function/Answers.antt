@@ -1,6 +1,6 @@
 use Rattle.std.proofs.Common.{subst}
 use Rattle.frp_expr.specs.Gives.{Gives}
-use Rattle.frp_graph.specs.declared.file.Function.{Function}
+use Rattle.frp_file.specs.declared.file.Function.{Function}
 use Rattle.frp_type.specs.Known.{fun_known}
 use Rattle.frp_type.specs.States.{known_of}
 use Rattle.frp_type.proofs.decls.function.Goals as goal

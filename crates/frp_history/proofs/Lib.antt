@@ -1,0 +1,5 @@
+pub mod WindowLemmas
+pub mod Sendings
+pub mod Legals
+pub mod Sendable
+pub mod Counts

@@ -1,0 +1,5 @@
+use Rattle.frp_history.proofs.Legals as legals
+use Rattle.frp_history.proofs.laws.legal_after.Goals as goal
+
+pub returns : goal.returns
+returns c = legals.legal_after
