@@ -1,0 +1,9 @@
+pub mod Paths
+pub mod Rings
+pub mod Renumbering
+pub mod Undoing
+pub mod Filing
+pub mod Visiting
+pub mod Writing
+pub mod Rising
+pub mod Linking

@@ -1,0 +1,6 @@
+pub mod Chain
+pub mod Order
+pub mod Laws
+pub mod Graph
+pub mod Search
+pub mod Plans
