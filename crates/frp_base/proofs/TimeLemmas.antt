@@ -11,9 +11,6 @@ children_have_parents (n ∷ []) i h = refl
 children_have_parents (n ∷ m ∷ []) i h = refl
 children_have_parents (n ∷ m ∷ k ∷ t) i h = ap (option_map (λ (p : List ℕ × ℕ). (n ∷ p.0, p.1))) (children_have_parents (m ∷ k ∷ t) i (omega arith))
 
-pub parent-child : (t : List ℕ) (i : ℕ) → 0 < length t → parent (t ++ i ∷ []) ≡ Some t
-parent-child t i h = ap (option_map (λ (p : List ℕ × ℕ). p.0)) (children_have_parents t i h)
-
 -- the first number goes over
 first_goes : (n : ℕ) (o : Option (List ℕ × ℕ))
     → option_map (λ (p : List ℕ × ℕ). p.0) (option_map (λ (p : List ℕ × ℕ). (n ∷ p.0, p.1)) o) ≡ option_map (λ (t : List ℕ). n ∷ t) (option_map (λ (p : List ℕ × ℕ). p.0) o)

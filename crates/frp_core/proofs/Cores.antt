@@ -19,7 +19,7 @@ use Rattle.frp_graph.specs.Births.{build, file_plans}
 use Rattle.frp_graph.specs.FirstValues.{AreBorn}
 use Rattle.frp_graph.specs.Moments.{is_of, moments_of, transaction, IsMoment, IsTrace, AtEach}
 use Rattle.frp_graph.specs.WellFormed.{has_typed_first, is_typed_fact, Allows}
-use Rattle.frp_graph.specs.Sound.{IsSound, KeepsLimits}
+use Rattle.frp_graph.specs.Sound.{IsSoundAfter, KeepsLimits}
 use Rattle.frp_graph.specs.TypedProg.{IsTypedProg}
 use Rattle.frp_graph.specs.Limits.{program_limits}
 use Rattle.frp_graph.proofs.Each.{each_more}
@@ -179,7 +179,7 @@ module _ (c : State) (core : IsCore c) (room : HasRoom c) where
         (subst (IsTrace c.prog (sends_of (c.entries ++ e ∷ []))) (sym (append-nil c.trace))
         (is_trace c.trace core.small c.prog (c.entries ++ e ∷ []) (no_groups (c.entries ++ e ∷ []) more_plain) same_times
         (subst (λ ss. AtEach (IsMoment c.prog ss) [] c.trace) (sym same_sends) core.legal.is_trace.moments)))
-        (subst (AtEach (IsSound c.prog) []) (sym (append-nil c.trace)) core.legal.sound)
+        (subst (AtEach (IsSoundAfter c.prog) []) (sym (append-nil c.trace)) core.legal.sound)
         (subst (KeepsLimits program_limits) (sym (append-nil c.trace)) core.legal.within)
         (omega arith) q.reply)
 
@@ -239,7 +239,7 @@ module _ (c : State) (core : IsCore c) (room : HasRoom c) where
         subst (λ (fs : List Fact). list_all (is_typed_fact c.prog seen) fs ≡ true) (sym facts.fired)
         (typed_facts c.prog seen (live c.trace) here (Some f) facts.occs finds (sent_fits c.prog seen here f takes) core.small allowed facts.settled)
 
-    last_sound : IsSound c.prog c.trace m
+    last_sound : IsSoundAfter c.prog c.trace m
     last_sound = record { firsts = refl; facts = fired_typed; chainless = chainless seen (live c.trace) finds core.small }
 
     one_here : moments_of here (m ∷ []) ≡ 1
@@ -282,7 +282,7 @@ module _ (c : State) (core : IsCore c) (room : HasRoom c) where
     send_legal : IsLegal c.prog program_limits (c.entries ++ e ∷ []) (c.trace ++ m ∷ [])
     send_legal = legal_after c.prog program_limits c.entries e c.trace (m ∷ []) core.legal of_here
         (is_trace (c.trace ++ m ∷ []) small_after c.prog (c.entries ++ e ∷ []) (no_groups (c.entries ++ e ∷ []) all_plain) more_times each_moment)
-        (each_more (IsSound c.prog) [] c.trace m core.legal.sound last_sound)
+        (each_more (IsSoundAfter c.prog) [] c.trace m core.legal.sound last_sound)
         keeps_limits (omega arith)
         (not_refused (no_sends c.prog (node_in (live c.trace)) (f ∷ [])) _ (Accepted 1) (one_taken c.prog (node_in (live c.trace)) f sink) refl)
 
@@ -403,7 +403,7 @@ module _ (prog : Prog) (nodes : List Node) (fired : List Fact) (typed : IsTypedP
   first_right = subst (λ (xs : List Node). (AllByRecursion (λ x. Allows prog first_sight x.ty x.shape) xs) × (list_all (has_typed_first prog first_sight) xs ≡ true)) (sym same)
       (nodes_right prog typed built first_sight (λ n. first_finds n ∙ ap (λ (xs : List Node). node_in xs n) same))
 
-  first_sound : IsSound prog [] first_moment
+  first_sound : IsSoundAfter prog [] first_moment
   first_sound = record {
     firsts = first_right.1;
     facts = subst (λ (fs : List Fact). list_all (is_typed_fact prog first_sight) fs ≡ true) (sym facts.fired)

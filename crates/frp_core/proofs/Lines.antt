@@ -23,7 +23,7 @@ use Rattle.frp_graph.specs.Births.{reference, lam_of, node_of, shape_of, given_b
 use Rattle.frp_graph.specs.FirstValues.{first_value, AreBorn}
 use Rattle.std.proofs.lemmas.List.{append-nil}
 use Rattle.frp_core.specs.Small.{is_built_shape, is_built_line, is_built, IsSmall, AreSmallFrom}
-use Rattle.frp_core.specs.Nodes.{line_node, with_line, line_nodes, IsReady, AreReady}
+use Rattle.frp_core.specs.Nodes.{line_node, with_next_reference, line_nodes, IsReady, AreReady}
 
 -- Each reads earlier nodes.
 
@@ -38,7 +38,7 @@ small_shape refs _ h = absurd h
 small_lines : (refs : List Val) (ls : List Line3) → AreReady refs ls → AreSmallFrom (length refs) (line_nodes refs ls)
 small_lines refs [] h = tt
 small_lines refs (line.Node ty shape ∷ ls) h =
-    (refl, small_shape refs shape h.0, subst (λ k. AreSmallFrom k (line_nodes (with_line refs ty) ls)) (length_push refs (reference ty (declared_name (length refs)))) (small_lines (with_line refs ty) ls h.1))
+    (refl, small_shape refs shape h.0, subst (λ k. AreSmallFrom k (line_nodes (with_next_reference refs ty) ls)) (length_push refs (reference ty (declared_name (length refs)))) (small_lines (with_next_reference refs ty) ls h.1))
 small_lines refs (line.Get c ∷ ls) h = absurd h
 
 pub small : (ls : List Line3) → AreReady [] ls → AreSmallFrom 0 (line_nodes [] ls)
@@ -86,10 +86,10 @@ module _ (prog : Prog) (w : Sight) where
       let q = both_true (is_built_shape shape) _ b in
       let r : Val = reference ty (declared_name (length refs)) in
       let front : take (length refs) all ≡ refs = ap (take (length refs)) e ∙ take-append_seam refs (refs_from (length refs) (line.Node ty shape ∷ ls)) in
-      let n : length (with_line refs ty) ≡ length refs + 1 = length_push refs r in
-      let rest : all ≡ with_line refs ty ++ refs_from (length (with_line refs ty)) ls = e ∙ sym (append_assoc refs (r ∷ []) (refs_from (length refs + 1) ls)) ∙ ap (λ k. with_line refs ty ++ refs_from k ls) (sym n) in (
+      let n : length (with_next_reference refs ty) ≡ length refs + 1 = length_push refs r in
+      let rest : all ≡ with_next_reference refs ty ++ refs_from (length (with_next_reference refs ty)) ls = e ∙ sym (append_assoc refs (r ∷ []) (refs_from (length refs + 1) ls)) ∙ ap (λ k. with_next_reference refs ty ++ refs_from k ls) (sym n) in (
         record { made = record { name = refl; shape = same_shape all refs (take (length refs) all) shape front q.0; ty = refl }; first = same_first all refs (take (length refs) all) shape front q.0 },
-        subst (λ k. AreBorn prog w (plans_from declared_name all k k ls) (line_nodes (with_line refs ty) ls)) n (born_lines all (with_line refs ty) ls rest q.1),
+        subst (λ k. AreBorn prog w (plans_from declared_name all k k ls) (line_nodes (with_next_reference refs ty) ls)) n (born_lines all (with_next_reference refs ty) ls rest q.1),
       )
   born_lines all refs (line.Get c ∷ ls) e b = absurd cc
 
@@ -99,7 +99,7 @@ born prog w b = rw (values_are 0 [] prog.body.lines b) (born_lines prog w (refs_
 -- There are no more of them than lines.
 pub few_nodes : (refs : List Val) (ls : List Line3) → length (line_nodes refs ls) ≤ length ls
 few_nodes refs [] = omega arith
-few_nodes refs (line.Node ty shape ∷ ls) = let l : length (line_nodes (with_line refs ty) ls) ≤ length ls = few_nodes (with_line refs ty) ls in omega arith
+few_nodes refs (line.Node ty shape ∷ ls) = let l : length (line_nodes (with_next_reference refs ty) ls) ≤ length ls = few_nodes (with_next_reference refs ty) ls in omega arith
 few_nodes refs (line.Get c ∷ ls) = omega arith
 
 -- what holds of the answer at Ok, from what is known of it

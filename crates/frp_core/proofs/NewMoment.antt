@@ -21,7 +21,7 @@ use Rattle.frp_graph.specs.FirstValues.{AreExactly}
 use Rattle.frp_graph.specs.Moments.{IsMoment}
 use Rattle.frp_graph.proofs.Nodes.{found_joined, each_holds}
 use Rattle.frp_core.specs.Small.{IsEarlier, IsSmall, AreSmallFrom}
-use Rattle.frp_core.specs.Engine.{sends_at, occ_at, sees, AreSettled, facts_of}
+use Rattle.frp_core.specs.Engine.{sends_of_fact, occ_at, sees, AreSettled, facts_of}
 use Rattle.frp_core.proofs.Names.{name_same, declared_differs, declared_less}
 use Rattle.frp_core.proofs.Times.{all_mapped}
 
@@ -111,14 +111,14 @@ found_all xs = found_after [] xs
 module _ (prog : Prog) (nodes : List Node) (sends : List Sent) (place : ℕ) (sent : Option Fact) (past : List Moment) (m : Moment) (occs : List (Option Val))
     (time : m.time ≡ place ∷ []) (fired : m.fired ≡ facts_of nodes occs) (small : AreSmallFrom 0 nodes)
     (same : length occs ≡ length nodes)
-    (agree : (n : Name) → sent_in prog sends (place ∷ []) n ≡ sent_in prog (sends_at place sent) (place ∷ []) n) where
+    (agree : (n : Name) → sent_in prog sends (place ∷ []) n ≡ sent_in prog (sends_of_fact place sent) (place ∷ []) n) where
   found : (i : ℕ) → occ m (declared_name i) ≡ flat (slice_get occs i)
   found i = ap (λ fs. fact_in fs (declared_name i)) fired ∙ ap (λ j. fact_in (facts_of nodes occs) (declared_name j)) (sym (zero-add i)) ∙ fact_found 0 i nodes occs same small
 
   seen : (k : ℕ) (n : Name) → IsEarlier k n → occ m n ≡ occ_at occs n
   seen k n e = ap (occ m) e.1.1 ∙ found e.0 ∙ ap (λ j. flat (slice_get occs j)) (sym (ap item_of e.1.1))
 
-  row_seen : (k : ℕ) (x : Node) (s : Shape) → IsSmall k s → row prog sends (sight_of past m) x s ≡ row prog (sends_at place sent) (sees place occs) x s
+  row_seen : (k : ℕ) (x : Node) (s : Shape) → IsSmall k s → row prog sends (sight_of past m) x s ≡ row prog (sends_of_fact place sent) (sees place occs) x s
   row_seen k x Sink h = ap (λ t. sent_in prog sends t x.name) time ∙ agree x.name
   row_seen k x Never h = refl
   row_seen k x (Map f s) h = ap (option_map _) (seen k s h)

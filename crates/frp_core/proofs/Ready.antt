@@ -30,7 +30,7 @@ use Rattle.frp_graph.specs.TypedProg.{IsTypedProg, sigs, patterns, stream_item, 
 use Rattle.frp_graph.proofs.TypedValues.{IsNodeType, stream_from, stream_node, reference_is, refers, are_stay}
 use Rattle.frp_graph.proofs.TypedLines.{MakesType, line_kind}
 use Rattle.frp_core.specs.Small.{is_built_shape, is_built_line, is_built, IsEarlier}
-use Rattle.frp_core.specs.Nodes.{with_line, IsReady, AreReady}
+use Rattle.frp_core.specs.Nodes.{with_next_reference, IsReady, AreReady}
 use Rattle.frp_core.proofs.Names.{declared_differs}
 
 -- The types of nodes by their names, where the first is that of item k.
@@ -76,7 +76,7 @@ module _ (prog : Prog) where
   abbrev pub Are : List Val → List Ty → Type 0
   Are refs ts = are_of (named 0 ts) (sigs prog) refs ts ≡ true
 
-  pub are_with : (refs : List Val) (ts : List Ty) (x : Ty) → Are refs ts → IsNodeType x → Are (with_line refs x) (ts ++ x ∷ [])
+  pub are_with : (refs : List Val) (ts : List Ty) (x : Ty) → Are refs ts → IsNodeType x → Are (with_next_reference refs x) (ts ++ x ∷ [])
   are_with refs ts x h r =
       let e : length refs ≡ length ts = as_many (named 0 ts) (sigs prog) refs ts h in
       let last : named 0 (ts ++ x ∷ []) (declared_name (length refs)) ≡ Some x = ap (λ j. named 0 (ts ++ x ∷ []) (declared_name j)) (e ∙ sym (zero-add (length ts))) ∙ named_last 0 ts x in
@@ -108,7 +108,7 @@ module _ (prog : Prog) where
       let q = both_true _ _ p in
       let r = both_true (is_built_shape shape) _ b in
       let typed : MakesType prog (patterns prog) ts x shape = has_some x _ (both_true _ _ q.0).0 in
-      (shape_ready refs ts x shape h r.0 typed, lines_ready all (ts ++ x ∷ []) (nodes ++ length ts ∷ []) (with_line refs x) ls (are_with refs ts x h (line_kind prog (patterns prog) ts x shape typed)) q.1 r.1)
+      (shape_ready refs ts x shape h r.0 typed, lines_ready all (ts ++ x ∷ []) (nodes ++ length ts ∷ []) (with_next_reference refs x) ls (are_with refs ts x h (line_kind prog (patterns prog) ts x shape typed)) q.1 r.1)
   lines_ready all ts nodes refs (Get c ∷ ls) h p b = absurd cc
 
   -- the lines of a typed program, over no values

@@ -16,7 +16,7 @@ use Rattle.frp_graph.specs.Equations.{row}
 use Rattle.frp_core.specs.Small.{IsEarlier, IsSmall, AreSmallFrom}
 use Rattle.frp_graph.specs.Sends.{join_of, combined, sent_in}
 use Rattle.frp_graph.proofs.Lists.{time_eq-same}
-use Rattle.frp_core.specs.Engine.{sent_to, sends_at, occ_at, sees, AreSettled}
+use Rattle.frp_core.specs.Engine.{sent_to, sends_of_fact, occ_at, sees, AreSettled}
 
 -- the node at a position of the nodes is small there
 pub small_at : (k : ℕ) (xs : List Node) (i : ℕ) (d : Node) → i < length xs → AreSmallFrom k xs → IsSmall (k + i) (get_or xs i d).shape
@@ -46,7 +46,7 @@ occ_more os o k n h e =
 
 module _ (prog : Prog) (place : ℕ) (sent : Option Fact) where
   row_more : (os : List (Option Val)) (o : Option Val) (k : ℕ) (x : Node) (s : Shape) → k ≤ length os → IsSmall k s
-      → row prog (sends_at place sent) (sees place (os ++ o ∷ [])) x s ≡ row prog (sends_at place sent) (sees place os) x s
+      → row prog (sends_of_fact place sent) (sees place (os ++ o ∷ [])) x s ≡ row prog (sends_of_fact place sent) (sees place os) x s
   row_more os o k x Sink h e = refl
   row_more os o k x Never h e = refl
   row_more os o k x (Map f s) h e = ap (option_map _) (occ_more os o k s h e)
@@ -63,7 +63,7 @@ module _ (prog : Prog) (place : ℕ) (sent : Option Fact) where
   settled_seen os o k (x ∷ xs) (p ∷ ps) h s a = (a.0 ∙ sym (row_more os o k x x.shape (omega arith) s.1), settled_seen os o (k + 1) xs ps (omega arith) s.2 a.1)
 
   settled_push : (all : List (Option Val)) (xs : List Node) (ps : List (Option Val)) (x : Node) (p : Option Val) → AreSettled prog place sent all xs ps
-      → p ≡ row prog (sends_at place sent) (sees place all) x x.shape → AreSettled prog place sent all (xs ++ x ∷ []) (ps ++ p ∷ [])
+      → p ≡ row prog (sends_of_fact place sent) (sees place all) x x.shape → AreSettled prog place sent all (xs ++ x ∷ []) (ps ++ p ∷ [])
   settled_push all [] [] x p a e = (e, tt)
   settled_push all [] (q ∷ ps) x p a e = absurd a
   settled_push all (y ∷ xs) [] x p a e = absurd a
@@ -78,7 +78,7 @@ module _ (prog : Prog) (place : ℕ) (sent : Option Fact) where
 
   -- one node more is settled
   pub settled_more : (nodes : List Node) (os : List (Option Val)) (o : Option Val) (i : ℕ) (x : Node) → AreSmallFrom 0 nodes → i < length nodes → x ≡ get_or nodes i x
-      → AreSettled prog place sent os (take i nodes) os → o ≡ row prog (sends_at place sent) (sees place os) x x.shape
+      → AreSettled prog place sent os (take i nodes) os → o ≡ row prog (sends_of_fact place sent) (sees place os) x x.shape
       → AreSettled prog place sent (os ++ o ∷ []) (take (i + 1) nodes) (os ++ o ∷ [])
   settled_more nodes os o i x s h e a r =
       let n : length os ≡ length (take i nodes) = settled_length os (take i nodes) os a in
@@ -99,7 +99,7 @@ module _ (prog : Prog) (place : ℕ) (sent : Option Fact) where
       subst (λ j. IsSmall j x.shape) l (subst (λ y. IsSmall (0 + i) y.shape) (sym e) (small_at 0 nodes i x h s))
 
 -- what is sent at a place to a sink, where one value at most is
-pub one_sent : (prog : Prog) (place : ℕ) (sent : Option Fact) (n : Name) → sent_in prog (sends_at place sent) (place ∷ []) n ≡ sent_to sent n
+pub one_sent : (prog : Prog) (place : ℕ) (sent : Option Fact) (n : Name) → sent_in prog (sends_of_fact place sent) (place ∷ []) n ≡ sent_to sent n
 one_sent prog place None n = refl
 one_sent prog place (Some f) n = rw (time_eq-same (place ∷ [])) (by (name_eq f.node n)) where
   by : (b : Bool) → combined prog (join_of prog n) (map (λ (s : Sent). s.value) (cond b (record { place = place; part = 0; sink = f.node; value = f.value } ∷ []) [])) ≡ (if b then Some f.value else None)

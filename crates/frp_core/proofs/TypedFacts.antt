@@ -32,9 +32,9 @@ use Rattle.frp_graph.specs.Equations.{keep_if, row}
 use Rattle.frp_history.specs.declared.history.No.TheVariants.{UnknownSink, WrongType}
 use Rattle.frp_history.specs.Legal.{no_sink}
 use Rattle.frp_graph.proofs.Lists.{chosen, name_same as name_is}
-use Rattle.frp_graph.specs.WellFormed.{is_typed_fact, Gives, Allows}
+use Rattle.frp_graph.specs.WellFormed.{is_typed_fact, Returns, Allows}
 use Rattle.frp_core.specs.Small.{IsEarlier, IsSmall, AreSmallFrom}
-use Rattle.frp_core.specs.Engine.{sends_at, occ_at, sees, AreSettled, facts_of}
+use Rattle.frp_core.specs.Engine.{sends_of_fact, occ_at, sees, AreSettled, facts_of}
 use Rattle.frp_graph.proofs.TypedValues.{stream_holds, cell_holds}
 use Rattle.frp_core.proofs.Names.{name_same, declared_differs}
 use Rattle.frp_core.proofs.Settling.{one_sent}
@@ -65,9 +65,9 @@ abbrev pub Fits : Prog → Sight → Name → Option Val → Type 0
 Fits prog seen n o = (y : Ty) (v : Val) → type_among seen.node n ≡ Some y → o ≡ Some v → fits_node prog seen.node y v ≡ true
 
 module _ (prog : Prog) (seen : Sight) (place : ℕ) (sent : Option Fact) (occs : List (Option Val))
-    (sent_fits : (n : Name) → Fits prog seen n (sent_in prog (sends_at place sent) (place ∷ []) n)) where
+    (sent_fits : (n : Name) → Fits prog seen n (sent_in prog (sends_of_fact place sent) (place ∷ []) n)) where
   -- an expression of the program that gives a type for an argument
-  call_fits : (f : Lam) (a b : Ty) (w : Val) → Gives prog seen f (a ∷ []) b → is_value prog seen.node w a ≡ true → is_value prog seen.node (call prog f (w ∷ [])) b ≡ true
+  call_fits : (f : Lam) (a b : Ty) (w : Val) → Returns prog seen f (a ∷ []) b → is_value prog seen.node w a ≡ true → is_value prog seen.node (call prog f (w ∷ [])) b ≡ true
   call_fits f a b w g h =
       let e = bind_some (slice_get prog.codes f.code) (λ e. type_in (sigs prog) e (g.kept ++ a ∷ [])) b g.typed in
       let q : slice_index_or prog.codes f.code (ex.Int (pos 0)) ≡ e.0 = index_is prog.codes f.code (ex.Int (pos 0)) e.0 e.1 in
@@ -79,7 +79,7 @@ module _ (prog : Prog) (seen : Sight) (place : ℕ) (sent : Option Fact) (occs :
   AreBefore k = (n : Name) → IsEarlier k n → Fits prog seen n (occ_at occs n)
 
   row_fits : (k : ℕ) (n : Node) (s : Shape) (x : Ty) → AreBefore k → IsSmall k s → Allows prog seen x s → type_among seen.node n.name ≡ Some x
-      → (v : Val) → row prog (sends_at place sent) (sees place occs) n s ≡ Some v → fits_node prog seen.node x v ≡ true
+      → (v : Val) → row prog (sends_of_fact place sent) (sees place occs) n s ≡ Some v → fits_node prog seen.node x v ≡ true
   row_fits k n Sink x b i h e v r = sent_fits n.name x v e r
   row_fits k n Never x b i h e v r = absurd cc
   row_fits k n (Map f s) x b i h e v r =
@@ -140,7 +140,7 @@ sink_fits prog node v (Some x) y h e =
     neither false b h = absurd cc
 
 pub sent_fits : (prog : Prog) (seen : Sight) (place : ℕ) (f : Fact) → no_sink prog seen.node f.value (seen.node f.node) ≡ None
-    → (n : Name) → Fits prog seen n (sent_in prog (sends_at place (Some f)) (place ∷ []) n)
+    → (n : Name) → Fits prog seen n (sent_in prog (sends_of_fact place (Some f)) (place ∷ []) n)
 sent_fits prog seen place f h n = λ y v q r. elim (chosen (name_eq f.node n) f.value v None (sym (one_sent prog place (Some f) n) ∙ r)) [
   | inl e ↦
       let at : f.node ≡ n = name_is f.node n e.0 in
@@ -167,7 +167,7 @@ each_found k [] s = tt
 each_found k (x ∷ xs) s = (rw (name_same x.name) refl, passed_over x xs xs (later_differ k (k + 1) x.name xs s.0 (omega arith) s.2) (each_found (k + 1) xs s.2))
 
 pub typed_facts : (prog : Prog) (seen : Sight) (nodes : List Node) (place : ℕ) (sent : Option Fact) (occs : List (Option Val)) → ((n : Name) → seen.node n ≡ node_in nodes n)
-    → ((n : Name) → Fits prog seen n (sent_in prog (sends_at place sent) (place ∷ []) n)) → AreSmallFrom 0 nodes → AllByRecursion (λ x. Allows prog seen x.ty x.shape) nodes
+    → ((n : Name) → Fits prog seen n (sent_in prog (sends_of_fact place sent) (place ∷ []) n)) → AreSmallFrom 0 nodes → AllByRecursion (λ x. Allows prog seen x.ty x.shape) nodes
     → AreSettled prog place sent occs nodes occs → list_all (is_typed_fact prog seen) (facts_of nodes occs) ≡ true
 typed_facts prog seen nodes place sent occs same f s w a =
     facts_fit prog seen place sent occs f 0 nodes occs s w (all_follow _ _ (λ x e. same x.name ∙ e) nodes (each_found 0 nodes s)) a (λ i. ap (λ (j : ℕ). option_and_then (λ (p : Option Val). p) (slice_get occs j)) (zero-add i))

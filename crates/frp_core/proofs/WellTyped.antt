@@ -27,7 +27,7 @@ use Rattle.frp_graph.proofs.TypedValues.{stream_is, are_stay}
 use Rattle.frp_graph.proofs.Options.{some_is}
 use Rattle.frp_graph.proofs.TypedLines.{MakesType, line_kind, line_is_allowed}
 use Rattle.frp_core.specs.Small.{is_built_shape, is_built_line, is_built, AreSmallFrom}
-use Rattle.frp_core.specs.Nodes.{line_node, with_line, line_nodes}
+use Rattle.frp_core.specs.Nodes.{line_node, with_next_reference, line_nodes}
 use Rattle.frp_core.proofs.Ready.{named, named_stays, Are, are_with, ready, typed_lines}
 use Rattle.frp_core.proofs.Lines.{small}
 
@@ -86,7 +86,7 @@ module _ (prog : Prog) (w : Sight) (all : List Val) (all_among : are_values prog
       let typed : MakesType prog (patterns prog) ts x shape = has_some x _ (both_true _ _ q.0).0 in
       let among : are_values prog w.node refs ts ≡ true = are_stay (sigs prog) (named 0 ts) (type_among w.node) (λ n y e. c n y (named_within ts (Node x shape ∷ ls) n y e)) refs ts h in
       let line = line_is_allowed prog w all refs tied ts all_among among x shape q.0 in
-      let rest = lines_right (ts ++ x ∷ []) (made ++ length ts ∷ []) (with_line refs x) ls c (are_with prog refs ts x h (line_kind prog (patterns prog) ts x shape typed)) q.1 r.1 in
+      let rest = lines_right (ts ++ x ∷ []) (made ++ length ts ∷ []) (with_next_reference refs x) ls c (are_with prog refs ts x h (line_kind prog (patterns prog) ts x shape typed)) q.1 r.1 in
       let first : has_typed_first prog w (line_node refs x shape) ≡ true = true_both _ _ (line.given_fits (line_node refs x shape).name (line_node refs x shape).shape) (first_there prog refs ts x shape r.0 typed) in
       ((right_shape refs x shape r.0 line.allowed, rest.0), true_both _ _ first rest.1)
     where
@@ -103,7 +103,7 @@ module _ (prog : Prog) (w : Sight) (all : List Val) (all_among : are_values prog
 -- the references to all the nodes of lines, after these
 abbrev refs_after : List Val → List Line3 → List Val
 refs_after refs [] = refs
-refs_after refs (Node x shape ∷ ls) = refs_after (with_line refs x) ls
+refs_after refs (Node x shape ∷ ls) = refs_after (with_next_reference refs x) ls
 refs_after refs (Get c ∷ ls) = refs
 
 module _ (prog : Prog) where
@@ -114,14 +114,14 @@ module _ (prog : Prog) where
       let q = both_true _ _ p in
       let r = both_true (is_built_shape shape) _ b in
       let typed : MakesType prog (patterns prog) ts x shape = has_some x _ (both_true _ _ q.0).0 in
-      are_after tied (ts ++ x ∷ []) (made ++ length ts ∷ []) (with_line refs x) ls (are_with prog refs ts x h (line_kind prog (patterns prog) ts x shape typed)) q.1 r.1
+      are_after tied (ts ++ x ∷ []) (made ++ length ts ∷ []) (with_next_reference refs x) ls (are_with prog refs ts x h (line_kind prog (patterns prog) ts x shape typed)) q.1 r.1
   are_after tied ts made refs (Get c ∷ ls) h p b = absurd cc
 
   -- the types of the lines are those of their nodes
   types_are : (refs : List Val) (ts : List Ty) (ls : List Line3) → list_all is_built_line ls ≡ true → all_types (sigs prog) prog.codes (patterns prog) ts ls ≡ ts ++ map (λ x. x.ty) (line_nodes refs ls)
   types_are refs ts [] b = sym (append-nil ts)
   types_are refs ts (Node x shape ∷ ls) b =
-      types_are (with_line refs x) (ts ++ x ∷ []) ls (both_true (is_built_shape shape) _ b).1 ∙ append_assoc ts (x ∷ []) (map (λ x. x.ty) (line_nodes (with_line refs x) ls))
+      types_are (with_next_reference refs x) (ts ++ x ∷ []) ls (both_true (is_built_shape shape) _ b).1 ∙ append_assoc ts (x ∷ []) (map (λ x. x.ty) (line_nodes (with_next_reference refs x) ls))
   types_are refs ts (Get c ∷ ls) b = absurd cc
 
 -- the types of nodes by their items are those by their names

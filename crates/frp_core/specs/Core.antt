@@ -7,10 +7,10 @@ use Rattle.frp_graph.specs.declared.prog.Prog.{Prog}
 use Rattle.frp_graph.specs.declared.trace.Moment.{Moment}
 use Rattle.frp_history.specs.declared.history.Key.{Key}
 use Rattle.frp_history.specs.declared.history.Cmd.{Cmd}
-use Rattle.frp_history.specs.declared.history.Cmd.TheVariants.{Group}
+use Rattle.frp_history.specs.declared.history.Cmd.TheVariants.{Send, Group, Join, Take, Leave}
 use Rattle.frp_history.specs.declared.history.No.TheVariants.{UnknownNode}
 use Rattle.frp_history.specs.declared.history.Reply.{Reply}
-use Rattle.frp_history.specs.declared.history.Reply.TheVariants.{Refused, Joined, Given}
+use Rattle.frp_history.specs.declared.history.Reply.TheVariants.{Accepted, Refused, Joined, Given, Left}
 use Rattle.frp_history.specs.declared.history.Entry.{Entry}
 use Rattle.frp_graph.specs.Trace.{live}
 use Rattle.frp_graph.specs.Births.{build}
@@ -40,14 +40,19 @@ times_of entries = build ∷ map (λ s. s.place ∷ []) (sends_of entries)
 
 -- no command is a group
 abbrev pub IsSingle : Cmd → Type 0
+IsSingle (Send sink value) = ⊤
 IsSingle (Group sends) = ⊥
-IsSingle _ = ⊤
+IsSingle (Join node) = ⊤
+IsSingle (Take key max) = ⊤
+IsSingle (Leave key) = ⊤
 
 -- a listener's slot is its place, and no listener takes
 abbrev pub IsPlain : Reply → Type 0
+IsPlain (Accepted moments) = ⊤
+IsPlain (Refused refusal) = ⊤
 IsPlain (Joined key) = key.slot ≡ key.place
 IsPlain (Given items) = ⊥
-IsPlain _ = ⊤
+IsPlain (Left items) = ⊤
 
 abbrev pub IsPlainEntry : Entry → Type 0
 IsPlainEntry e = IsSingle e.cmd × IsPlain e.reply

@@ -11,9 +11,9 @@ use Rattle.frp_graph.specs.Trace.{Sight}
 use Rattle.frp_graph.specs.Equations.{row}
 
 -- the send at a place, where there is one
-abbrev pub sends_at : ℕ → Option Fact → List Sent
-sends_at place None = []
-sends_at place (Some f) = record { place = place; part = 0; sink = f.node; value = f.value } ∷ []
+abbrev pub sends_of_fact : ℕ → Option Fact → List Sent
+sends_of_fact place None = []
+sends_of_fact place (Some f) = record { place = place; part = 0; sink = f.node; value = f.value } ∷ []
 
 -- what is sent to the node of a name
 abbrev pub sent_to : Option Fact → Name → Option Val
@@ -31,7 +31,7 @@ sees place occs = record { time = place ∷ []; node = λ n. None; occ = occ_at 
 -- each node's occurrence is the one of its row, where all the occurrences are seen
 abbrev pub AreSettled : Prog → ℕ → Option Fact → List (Option Val) → List Node → List (Option Val) → Type 0
 AreSettled prog place sent all [] [] = ⊤
-AreSettled prog place sent all (x ∷ xs) (o ∷ os) = (o ≡ row prog (sends_at place sent) (sees place all) x x.shape) × (AreSettled prog place sent all xs os)
+AreSettled prog place sent all (x ∷ xs) (o ∷ os) = (o ≡ row prog (sends_of_fact place sent) (sees place all) x x.shape) × (AreSettled prog place sent all xs os)
 AreSettled prog place sent all _ _ = ⊥
 
 -- the facts of the nodes that have an occurrence

@@ -16,13 +16,13 @@ abbrev pub line_node : List Val → Ty → LineShape → Node
 line_node refs ty shape = record { name = declared_name (length refs); shape = shape_of refs refs shape; ty = ty; first = given_by refs shape }
 
 -- these references and that to the node of the next line, of this type
-abbrev pub with_line : List Val → Ty → List Val
-with_line refs ty = refs ++ reference ty (declared_name (length refs)) ∷ []
+abbrev pub with_next_reference : List Val → Ty → List Val
+with_next_reference refs ty = refs ++ reference ty (declared_name (length refs)) ∷ []
 
 -- the nodes of lines
 abbrev pub line_nodes : List Val → List Line3 → List Node
 line_nodes refs [] = []
-line_nodes refs (line.Node ty shape ∷ ls) = line_node refs ty shape ∷ line_nodes (with_line refs ty) ls
+line_nodes refs (line.Node ty shape ∷ ls) = line_node refs ty shape ∷ line_nodes (with_next_reference refs ty) ls
 line_nodes refs (line.Get c ∷ ls) = []
 
 -- each operand of a shape that is built refers to an earlier node
@@ -37,5 +37,5 @@ IsReady refs _ = ⊥
 -- so it is for each of these lines
 abbrev pub AreReady : List Val → List Line3 → Type 0
 AreReady refs [] = ⊤
-AreReady refs (line.Node ty shape ∷ ls) = IsReady refs shape × AreReady (with_line refs ty) ls
+AreReady refs (line.Node ty shape ∷ ls) = IsReady refs shape × AreReady (with_next_reference refs ty) ls
 AreReady refs (line.Get c ∷ ls) = ⊥

@@ -7,7 +7,7 @@ ghost use Rattle.frp_base.specs.declared.val.Val.{out-Val};
 ghost use Rattle.frp_graph.specs.Equations.{row, keep_if};
 ghost use Rattle.frp_expr.specs.Parts.{bool_in};
 ghost use Rattle.frp_core.specs.Small.{AreSmallFrom, IsSmall};
-ghost use Rattle.frp_core.specs.Engine.{occ_at, sent_to, sends_at, sees, AreSettled, facts_of, AreFacts};
+ghost use Rattle.frp_core.specs.Engine.{occ_at, sent_to, sends_of_fact, sees, AreSettled, facts_of, AreFacts};
 
 use frp_base::{Memory, Name, Seq, Val};
 use frp_expr::eval;
@@ -59,7 +59,7 @@ fn occurrence(
     node: &Node,
 ) -> Result<Option<Val>, Memory>
     requires { IsSmall (length occs.now) node.now.shape }
-    ensures { IfOk result (λ o. o ≡ row prog.now (sends_at place (option_copied sent.entry)) (sees place occs.now) node.now node.now.shape) }
+    ensures { IfOk result (λ o. o ≡ row prog.now (sends_of_fact place (option_copied sent.entry)) (sees place occs.now) node.now node.now.shape) }
 {
     match &node.shape {
         Shape::Sink => sent_to(alloc, sent, &node.name),

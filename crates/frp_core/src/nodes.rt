@@ -6,7 +6,7 @@ ghost use Rattle.frp_expr.specs.Parts.{zero_val};
 ghost use Rattle.frp_graph.specs.TypedProg.{IsTypedProg};
 ghost use Rattle.frp_graph.specs.Births.{reference, lam_of, node_of, shape_of, given_by};
 ghost use Rattle.frp_core.specs.Small.{is_built, IsEarlier, AreSmallFrom};
-ghost use Rattle.frp_core.specs.Nodes.{line_node, with_line, line_nodes, IsReady, AreReady};
+ghost use Rattle.frp_core.specs.Nodes.{line_node, with_next_reference, line_nodes, IsReady, AreReady};
 
 use frp_base::{Memory, Name, Seq, Ty, Val};
 use frp_expr::eval;

@@ -6,8 +6,8 @@ use Rattle.frp_base.specs.declared.text.Text.{Text}
 use Rattle.frp_base.specs.declared.ty.Ty.{Ty}
 use Rattle.frp_expr.specs.Typing.{type_in}
 use Rattle.frp_expr.specs.Scope.{Named, names_of, types_of, fun_names, sigs_of}
-use Rattle.frp_expr.specs.Raw.{Outcome, is_lawful, resolve, typing}
-use Rattle.frp_expr.specs.Gives.{Stops}
+use Rattle.frp_expr.specs.Raw.{ExprOutcome, is_lawful, resolve, typing}
+use Rattle.frp_expr.specs.Gives.{ExprStops}
 use Rattle.frp_expr.specs.Uses.{uses}
 use Rattle.frp_expr.specs.TypeOf.{meant, IsTypingOf, IsFirstFault}
 use Rattle.frp_expr.specs.declared.expr.Expr.{Expr}
@@ -24,12 +24,12 @@ module _ (scope : Scope) (raw : Raw) where
   none_bound bound e = ap (λ bs. typing scope.funs raw (scope.names ++ bs)) e ∙ ap (typing scope.funs raw) (append-nil scope.names)
 
   -- what the expression has as its type, by its outcome
-  type_by : (o : Outcome Ty) → is_lawful raw ≡ true → typing scope.funs raw scope.names ≡ o → type_in (sigs_of scope.funs) (meant scope raw) (types_of scope.names) ≡ result_ok o
+  type_by : (o : ExprOutcome Ty) → is_lawful raw ≡ true → typing scope.funs raw scope.names ≡ o → type_in (sigs_of scope.funs) (meant scope raw) (types_of scope.names) ≡ result_ok o
   type_by o h e = sym (agrees scope.funs raw scope.names h) ∙ ap result_ok e
 
-  pub fault_found : (bound : List Named) (s : ExprStop) (f : TypeFault) → bound ≡ [] → is_lawful raw ≡ true → Stops s (typing scope.funs raw (scope.names ++ bound)) → s ≡ stop.Fault f → IsFirstFault scope raw f
+  pub fault_found : (bound : List Named) (s : ExprStop) (f : TypeFault) → bound ≡ [] → is_lawful raw ≡ true → ExprStops s (typing scope.funs raw (scope.names ++ bound)) → s ≡ stop.Fault f → IsFirstFault scope raw f
   fault_found bound s f e h p q =
-      let p' : typing scope.funs raw (scope.names ++ bound) ≡ Err f = subst (λ (s : ExprStop). Stops s (typing scope.funs raw (scope.names ++ bound))) q p in
+      let p' : typing scope.funs raw (scope.names ++ bound) ≡ Err f = subst (λ (s : ExprStop). ExprStops s (typing scope.funs raw (scope.names ++ bound))) q p in
       let first : typing scope.funs raw scope.names ≡ Err f = sym (none_bound bound e) ∙ p' in
       record { first = first; untyped = type_by (Err f) h first }
 

@@ -7,7 +7,7 @@ use Rattle.frp_base.specs.Ty.{ty_eq}
 use Rattle.frp_expr.specs.Types.{given}
 use Rattle.frp_expr.specs.Typing.{has}
 use Rattle.frp_expr.specs.Scope.{Named}
-use Rattle.frp_expr.specs.Raw.{Outcome, ◌>>=◌, or_fault, Part, part_by, part_as, two_as}
+use Rattle.frp_expr.specs.Raw.{ExprOutcome, ◌>>=◌, or_fault, Part, part_by, part_as, two_as}
 use Rattle.frp_expr.specs.declared.fault.TypeKind.{TypeKind}
 use Rattle.frp_expr.specs.declared.fault.TypeKind.TheVariants as kind
 
@@ -16,7 +16,7 @@ abbrev pub next : {A B : Type 0} → Option A → (A → Option B) → Option B
 next (Some a) f = f a
 next None f = None
 
-pub ok_bind : {A B : Type 0} (o : Outcome A) (f : A → Outcome B) → result_ok (o >>= f) ≡ next (result_ok o) (λ a. result_ok (f a))
+pub ok_bind : {A B : Type 0} (o : ExprOutcome A) (f : A → ExprOutcome B) → result_ok (o >>= f) ≡ next (result_ok o) (λ a. result_ok (f a))
 ok_bind (Ok a) f = refl
 ok_bind (Err e) f = refl
 
@@ -40,7 +40,7 @@ given_next true x o q r e = e
 given_next false x o q r e = refl
 
 -- a part that has the type, and then the rest
-pub as_then : (x : Ty) (p : Part) (ns : List Named) (k : Option Ty) (rest : Outcome Ty) (q : Bool) (r : Ty) → result_ok (p.typing ns) ≡ k → result_ok rest ≡ given q r
+pub as_then : (x : Ty) (p : Part) (ns : List Named) (k : Option Ty) (rest : ExprOutcome Ty) (q : Bool) (r : Ty) → result_ok (p.typing ns) ≡ k → result_ok rest ≡ given q r
     → result_ok (part_as x p ns >>= λ _. rest) ≡ given (has x k && q) r
 as_then x p ns k rest q r e f = ok_bind (part_as x p ns) (λ _. rest) ∙ ap (λ o. next o (λ _. result_ok rest)) (as_ok x p ns k e) ∙ given_next (has x k) x (result_ok rest) q r f
 
@@ -56,7 +56,7 @@ pub two_ok : (x : Ty) (a b : Part) (ns : List Named) (r : Ty) (k l : Option Ty) 
 two_ok x a b ns r k l e f = as_then x a ns k (part_as x b ns >>= λ _. Ok r) (has x l) r e (as_so x b ns l r f)
 
 -- a first part, and then what its type asks for
-pub first_then : (right : Ty → Option Ty) (p : Part) (ns : List Named) (k : Option Ty) (rest : Ty → Outcome Ty) (o : Ty → Option Ty) → result_ok (p.typing ns) ≡ k → ((x : Ty) → result_ok (rest x) ≡ o x)
+pub first_then : (right : Ty → Option Ty) (p : Part) (ns : List Named) (k : Option Ty) (rest : Ty → ExprOutcome Ty) (o : Ty → Option Ty) → result_ok (p.typing ns) ≡ k → ((x : Ty) → result_ok (rest x) ≡ o x)
     → result_ok (part_by right p ns >>= rest) ≡ next (next k right) o
 first_then right p ns k rest o e f = ok_bind (part_by right p ns) rest ∙ (λ i. next (part_ok right p ns k e i) (λ x. f x i))
 

@@ -15,7 +15,7 @@ use Rattle.frp_expr.specs.Operators.{most}
 use Rattle.frp_expr.specs.Types.{given, is_plain, kind_step, is_list, is_comparable, first_type, second_type, item_type, has_length}
 use Rattle.frp_expr.specs.Typing.{Sig, Kind, has, all_have, each_has, list_kind, type_step, type_in}
 use Rattle.frp_expr.specs.Scope.{Named, Fun, number_of, names_of, types_of, fun_names, sigs_of}
-use Rattle.frp_expr.specs.Raw.{Outcome, ◌>>=◌, or_fault, Part, part_as, items_as, list_of, kept_as, close_of, item_by, TyPart, ty_part, ty_of, ty_of_step, written_step, FormTyping, typing_step, part_of, typing, Standing, each_resolved, resolve_step, resolve, is_lawful_step, is_lawful}
+use Rattle.frp_expr.specs.Raw.{ExprOutcome, ◌>>=◌, or_fault, Part, part_as, items_as, list_of, kept_as, close_of, item_by, TyPart, ty_part, ty_of, ty_of_step, written_step, FormTyping, typing_step, part_of, typing, Standing, each_resolved, resolve_step, resolve, is_lawful_step, is_lawful}
 use Rattle.frp_expr.specs.declared.expr.Expr.{Expr, roll-Expr}
 use Rattle.frp_expr.specs.declared.expr.Expr.TheOpen.{Expr-F}
 use Rattle.frp_expr.specs.declared.expr.Expr.TheOpen as e
@@ -32,11 +32,11 @@ use Rattle.frp_base.proofs.Booleans.{both_true}
 use Rattle.frp_expr.proofs.Outcomes.{next, ok_bind, ok_or_fault, part_ok, as_ok, as_then, as_so, two_ok, first_then, guarded}
 
 -- Written types: one that is plain has no fault, and one that has a fault is not plain.
-abbrev Plainly : Outcome Ty → Ty → Type 0
+abbrev Plainly : ExprOutcome Ty → Ty → Type 0
 Plainly w a = (w ≡ Ok a) ⊎ ((result_ok w ≡ None) × (is_plain a ≡ false))
 
-abbrev form_written : TyForm → Outcome Ty
-form_written = fold-TyForm (Outcome Ty) TyPart written_step (λ r. record { at = r.at; ty = r.form })
+abbrev form_written : TyForm → ExprOutcome Ty
+form_written = fold-TyForm (ExprOutcome Ty) TyPart written_step (λ r. record { at = r.at; ty = r.form })
 
 abbrev form_ty : TyForm → Ty
 form_ty = fold-TyForm Ty Ty ty_of_step (λ r. r.form)
@@ -62,15 +62,10 @@ fun_not_plain a b = ap is_plain (sym (t.rolls-Fun a b)) ∙ ap (λ (k : Bool × 
 pair_plain : (a b : Ty) → is_plain (t.Pair a b) ≡ is_plain a && is_plain b
 pair_plain a b = ap is_plain (sym (t.rolls-Pair a b)) ∙ ap (λ (k : Bool × Bool). k.1) (fold-roll-Ty (Bool × Bool) kind_step (u.Pair a b))
 
--- an outcome is a type or a fault
-either : (w : Outcome Ty) → ((a : Ty) × (w ≡ Ok a)) ⊎ (result_ok w ≡ None)
-either (Ok a) = inl (a, refl)
-either (Err f) = inr refl
-
 -- where a part of a form is at fault, so is the form
-one_part : (w : Outcome Ty) (a : Ty) (f : Ty → Ty) → Plainly w a → is_plain (f a) ≡ false → Plainly (w >>= λ p. Ok (f p)) (f a)
+one_part : (w : ExprOutcome Ty) (a : Ty) (f : Ty → Ty) → Plainly w a → is_plain (f a) ≡ false → Plainly (w >>= λ p. Ok (f p)) (f a)
 one_part w a f h n = elim h [
-  | inl e ↦ inl (ap (λ (w : Outcome Ty). w >>= λ p. Ok (f p)) e)
+  | inl e ↦ inl (ap (λ (w : ExprOutcome Ty). w >>= λ p. Ok (f p)) e)
   | inr d ↦ inr (ok_bind w (λ p. Ok (f p)) ∙ ap (λ k. next k (λ p. Some (f p))) d.0, n)
 ]
 
@@ -78,12 +73,12 @@ and_false : (b : Bool) → b && false ≡ false
 and_false true = refl
 and_false false = refl
 
-two_parts : (w v : Outcome Ty) (a b : Ty) (f : Ty → Ty → Ty) → Plainly w a → Plainly v b → (is_plain a ≡ false → is_plain (f a b) ≡ false) → (is_plain b ≡ false → is_plain (f a b) ≡ false)
+two_parts : (w v : ExprOutcome Ty) (a b : Ty) (f : Ty → Ty → Ty) → Plainly w a → Plainly v b → (is_plain a ≡ false → is_plain (f a b) ≡ false) → (is_plain b ≡ false → is_plain (f a b) ≡ false)
     → Plainly (w >>= λ p. v >>= λ q. Ok (f p q)) (f a b)
 two_parts w v a b f h k m n = elim h [
   | inl e ↦ elim k [
-    | inl d ↦ inl (ap (λ (w : Outcome Ty). w >>= λ p. v >>= λ q. Ok (f p q)) e ∙ ap (λ (v : Outcome Ty). v >>= λ q. Ok (f a q)) d)
-    | inr d ↦ inr (ap (λ (w : Outcome Ty). result_ok (w >>= λ p. v >>= λ q. Ok (f p q))) e ∙ ok_bind v (λ q. Ok (f a q)) ∙ ap (λ k. next k (λ q. Some (f a q))) d.0, n d.1)
+    | inl d ↦ inl (ap (λ (w : ExprOutcome Ty). w >>= λ p. v >>= λ q. Ok (f p q)) e ∙ ap (λ (v : ExprOutcome Ty). v >>= λ q. Ok (f a q)) d)
+    | inr d ↦ inr (ap (λ (w : ExprOutcome Ty). result_ok (w >>= λ p. v >>= λ q. Ok (f p q))) e ∙ ok_bind v (λ q. Ok (f a q)) ∙ ap (λ k. next k (λ q. Some (f a q))) d.0, n d.1)
   ]
   | inr d ↦ inr (ok_bind w (λ p. v >>= λ q. Ok (f p q)) ∙ ap (λ k. next k (λ p. result_ok (v >>= λ q. Ok (f p q)))) d.0, m d.1)
 ]
@@ -91,19 +86,19 @@ two_parts w v a b f h k m n = elim h [
 -- an item type, in its place
 item_ok : (p : TyPart) (a : Ty) → Plainly p.ty a → result_ok (item_by p) ≡ given (is_plain a) a
 item_ok p a h = elim h [
-  | inl e ↦ ap (λ (w : Outcome Ty). result_ok (w >>= λ x. or_fault p.at kind.Type (given (is_plain x) x))) e ∙ ok_or_fault p.at kind.Type (given (is_plain a) a)
+  | inl e ↦ ap (λ (w : ExprOutcome Ty). result_ok (w >>= λ x. or_fault p.at kind.Type (given (is_plain x) x))) e ∙ ok_or_fault p.at kind.Type (given (is_plain a) a)
   | inr d ↦ ok_bind p.ty (λ x. or_fault p.at kind.Type (given (is_plain x) x)) ∙ ap (λ k. next k (λ x. result_ok (or_fault p.at kind.Type (given (is_plain x) x)))) d.0 ∙ ap (λ b. given b a) (sym d.1)
 ]
 
 list_part : (p : TyPart) (a : Ty) → Plainly p.ty a → Plainly (item_by p >>= λ x. Ok (t.List x)) (t.List a)
 list_part p a h = by_item (item_by p) (is_plain a) (item_ok p a h) where
-  by_item : (w : Outcome Ty) (b : Bool) → result_ok w ≡ given b a → Plainly (w >>= λ x. Ok (t.List x)) (t.List a)
+  by_item : (w : ExprOutcome Ty) (b : Bool) → result_ok w ≡ given b a → Plainly (w >>= λ x. Ok (t.List x)) (t.List a)
   by_item (Ok c) true e = let q : c ≡ a = cc in inl (ap (λ (c : Ty). Ok (t.List c)) q)
   by_item (Ok c) false e = absurd cc
   by_item (Err f) b e = inr (refl, list_not_plain a)
 
 ty_layer : (l : TyForm-F SuchTyForm SuchTy) → Plainly
-    (written_step (map-TyForm TyForm RawTy (Outcome Ty) TyPart form_written ty_part (map-TyForm SuchTyForm SuchTy TyForm RawTy (λ s. s.0) (λ s. s.0) l)))
+    (written_step (map-TyForm TyForm RawTy (ExprOutcome Ty) TyPart form_written ty_part (map-TyForm SuchTyForm SuchTy TyForm RawTy (λ s. s.0) (λ s. s.0) l)))
     (ty_of_step (map-TyForm TyForm RawTy Ty Ty form_ty ty_of (map-TyForm SuchTyForm SuchTy TyForm RawTy (λ s. s.0) (λ s. s.0) l)))
 ty_layer y.Int = inl refl
 ty_layer y.Bool = inl refl
@@ -117,13 +112,13 @@ ty_layer (y.Fun a b) = two_parts _ _ (ty_of a.0) (ty_of b.0) t.Fun a.1 b.1 (λ h
 form_rolled : (l : TyForm-F SuchTyForm SuchTy) → let f : TyForm = roll-TyForm (map-TyForm SuchTyForm SuchTy TyForm RawTy (λ s. s.0) (λ s. s.0) l) in Plainly (form_written f) (form_ty f)
 form_rolled l =
     let m : TyForm-F TyForm RawTy = map-TyForm SuchTyForm SuchTy TyForm RawTy (λ s. s.0) (λ s. s.0) l in
-    subst (λ (w : Outcome Ty). Plainly w (form_ty (roll-TyForm m))) (sym (fold-roll-TyForm (Outcome Ty) TyPart written_step (λ r. record { at = r.at; ty = r.form }) m))
-    (subst (λ (a : Ty). Plainly (written_step (map-TyForm TyForm RawTy (Outcome Ty) TyPart form_written ty_part m)) a) (sym (fold-roll-TyForm Ty Ty ty_of_step (λ r. r.form) m)) (ty_layer l))
+    subst (λ (w : ExprOutcome Ty). Plainly w (form_ty (roll-TyForm m))) (sym (fold-roll-TyForm (ExprOutcome Ty) TyPart written_step (λ r. record { at = r.at; ty = r.form }) m))
+    (subst (λ (a : Ty). Plainly (written_step (map-TyForm TyForm RawTy (ExprOutcome Ty) TyPart form_written ty_part m)) a) (sym (fold-roll-TyForm Ty Ty ty_of_step (λ r. r.form) m)) (ty_layer l))
 
 raw_rolled : (l : RawTy-F SuchTyForm SuchTy) → let r : RawTy = roll-RawTy (map-RawTy SuchTyForm SuchTy TyForm RawTy (λ s. s.0) (λ s. s.0) l) in Plainly (ty_part r).ty (ty_of r)
 raw_rolled l =
     let m : RawTy-F TyForm RawTy = map-RawTy SuchTyForm SuchTy TyForm RawTy (λ s. s.0) (λ s. s.0) l in
-    subst (λ (p : TyPart). Plainly p.ty (ty_of (roll-RawTy m))) (sym (fold-roll-RawTy (Outcome Ty) TyPart written_step (λ r. record { at = r.at; ty = r.form }) m))
+    subst (λ (p : TyPart). Plainly p.ty (ty_of (roll-RawTy m))) (sym (fold-roll-RawTy (ExprOutcome Ty) TyPart written_step (λ r. record { at = r.at; ty = r.form }) m))
     (subst (λ (a : Ty). Plainly (form_written l.form.0) a) (sym (fold-roll-RawTy Ty Ty ty_of_step (λ r. r.form) m)) l.form.1)
 
 pub plainly : (r : RawTy) → Plainly (ty_part r).ty (ty_of r)

@@ -118,66 +118,66 @@ module _ (funs : List Text) where
 -- The type of a written expression, or its first fault. Parts are looked at from the left: each with its own parts first,
 -- then its own type in its place, all before the next.
 
-abbrev pub Outcome : Type 0 → Type 0
-Outcome A = Result A TypeFault
+abbrev pub ExprOutcome : Type 0 → Type 0
+ExprOutcome A = Result A TypeFault
 
 infixl 10 ◌>>=◌
-abbrev pub ◌>>=◌ : {A B : Type 0} → Outcome A → (A → Outcome B) → Outcome B
+abbrev pub ◌>>=◌ : {A B : Type 0} → ExprOutcome A → (A → ExprOutcome B) → ExprOutcome B
 (Ok a) >>= f = f a
 (Err e) >>= f = Err e
 
 -- what there is, else a fault of this kind at this place
-abbrev pub or_fault : {A : Type 0} → ℕ → TypeKind → Option A → Outcome A
+abbrev pub or_fault : {A : Type 0} → ℕ → TypeKind → Option A → ExprOutcome A
 or_fault at k (Some a) = Ok a
 or_fault at k None = Err (record { place = at; kind = k })
 
 -- a part of an expression: its place, and its type over the names in scope
 pub record Part : Type 0 where
   pub at : ℕ
-  pub typing : List Named → Outcome Ty
+  pub typing : List Named → ExprOutcome Ty
 
 -- the part's type, seen so, where it is right
-abbrev pub part_by : (Ty → Option Ty) → Part → List Named → Outcome Ty
+abbrev pub part_by : (Ty → Option Ty) → Part → List Named → ExprOutcome Ty
 part_by right p ns = p.typing ns >>= λ x. or_fault p.at kind.Type (right x)
 
 -- the part has this type
-abbrev pub part_as : Ty → Part → List Named → Outcome Ty
+abbrev pub part_as : Ty → Part → List Named → ExprOutcome Ty
 part_as x = part_by (λ y. given (ty_eq y x) x)
 
 -- two parts of these types, and three
-abbrev pub two_as : Ty → Part → Part → List Named → Ty → Outcome Ty
+abbrev pub two_as : Ty → Part → Part → List Named → Ty → ExprOutcome Ty
 two_as x a b ns result = do
   _ ← part_as x a ns
   _ ← part_as x b ns
   Ok result
 
 -- the items after the first have its type
-abbrev pub items_as : Ty → List Part → List Named → Outcome Ty
+abbrev pub items_as : Ty → List Part → List Named → ExprOutcome Ty
 items_as x [] ns = Ok (t.List x)
 items_as x (p ∷ ps) ns = part_as x p ns >>= λ _. items_as x ps ns
 
-abbrev pub list_of : ℕ → List Part → List Named → Outcome Ty
+abbrev pub list_of : ℕ → List Part → List Named → ExprOutcome Ty
 list_of at [] ns = Err (record { place = at; kind = kind.Type })
 list_of at (p ∷ ps) ns = part_by (λ x. given (is_plain x) x) p ns >>= λ x. items_as x ps ns
 
 -- the kept values have these types, one by one, of which there are as many
-abbrev pub kept_as : List Ty → List Part → List Named → Ty → Outcome Ty
+abbrev pub kept_as : List Ty → List Part → List Named → Ty → ExprOutcome Ty
 kept_as (x ∷ xs) (p ∷ ps) ns result = part_as x p ns >>= λ _. kept_as xs ps ns result
 kept_as _ _ ns result = Ok result
 
 -- the function value of this function, at the place of the function's name
-abbrev pub close_of : ℕ → Fun → List Part → List Named → Outcome Ty
+abbrev pub close_of : ℕ → Fun → List Part → List Named → ExprOutcome Ty
 close_of at f ps ns = if length ps == length f.1 then kept_as f.1 ps ns (t.Fun f.2 f.3) else Err (record { place = at; kind = kind.Arity })
 
 -- A written type in its place: the items of each list in it are of a plain type.
 pub record TyPart : Type 0 where
   pub at : ℕ
-  pub ty : Outcome Ty
+  pub ty : ExprOutcome Ty
 
-abbrev pub item_by : TyPart → Outcome Ty
+abbrev pub item_by : TyPart → ExprOutcome Ty
 item_by p = p.ty >>= λ x. or_fault p.at kind.Type (given (is_plain x) x)
 
-abbrev pub written_step : TyForm-F (Outcome Ty) TyPart → Outcome Ty
+abbrev pub written_step : TyForm-F (ExprOutcome Ty) TyPart → ExprOutcome Ty
 written_step y.Int = Ok t.Int
 written_step y.Bool = Ok t.Bool
 written_step y.Text = Ok t.Text
@@ -188,26 +188,26 @@ written_step (y.Cell a) = a.ty >>= λ p. Ok (t.Cell p)
 written_step (y.Fun a b) = a.ty >>= λ p. b.ty >>= λ q. Ok (t.Fun p q)
 
 abbrev pub ty_part : RawTy → TyPart
-ty_part = fold-RawTy (Outcome Ty) TyPart written_step (λ r. record { at = r.at; ty = r.form })
+ty_part = fold-RawTy (ExprOutcome Ty) TyPart written_step (λ r. record { at = r.at; ty = r.form })
 
 -- a written type, or its first fault
-abbrev pub written : RawTy → Outcome Ty
-written r = (ty_part r).ty
+abbrev pub type_written : RawTy → ExprOutcome Ty
+type_written r = (ty_part r).ty
 
 -- the empty list of items of a written type
-abbrev pub nil_type : TyPart → Outcome Ty
+abbrev pub nil_type : TyPart → ExprOutcome Ty
 nil_type a = item_by a >>= λ p. Ok (t.List p)
 
 -- the type of a name at its place
-abbrev pub named_type : ℕ → Text → List Named → Outcome Ty
+abbrev pub named_type : ℕ → Text → List Named → ExprOutcome Ty
 named_type at n ns = or_fault at kind.Unknown (slice_get (types_of ns) (number_of n (names_of ns)))
 
 -- the function value of the function of this name
-abbrev pub closing : List Fun → Spot → List Part → List Named → Outcome Ty
+abbrev pub closing : List Fun → Spot → List Part → List Named → ExprOutcome Ty
 closing funs f ps ns = or_fault f.at kind.Unknown (slice_get funs (number_of f.text (fun_names funs))) >>= λ g. close_of f.at g ps ns
 
 abbrev pub FormTyping : Type 0
-FormTyping = ℕ → List Named → Outcome Ty
+FormTyping = ℕ → List Named → ExprOutcome Ty
 
 module _ (funs : List Fun) where
   -- the typing of a form at its place
@@ -246,5 +246,5 @@ module _ (funs : List Fun) where
   part_of = fold-Raw FormTyping Part typing_step (λ r. record { at = r.at; typing = r.form r.at })
 
   -- the type of a written expression, or its first fault
-  abbrev pub typing : Raw → List Named → Outcome Ty
+  abbrev pub typing : Raw → List Named → ExprOutcome Ty
   typing r = (part_of r).typing

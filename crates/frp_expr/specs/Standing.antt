@@ -15,8 +15,8 @@ of_one_step (o.Second _) a = x.Second a
 of_one_step (o.Len _) a = x.Len a
 of_one_step _ a = x.Show a
 
-abbrev pub of_one : Raw → Expr → Expr
-of_one r a = of_one_step (form_of r) a
+abbrev pub standing_of_one : Raw → Expr → Expr
+standing_of_one r a = of_one_step (form_of r) a
 
 abbrev pub of_two_step : RawForm-F RawForm Raw → Expr → Expr → Expr
 of_two_step (o.Add _ _) a b = x.Add a b
@@ -32,8 +32,8 @@ of_two_step (o.Eq _ _) a b = x.Eq a b
 of_two_step (o.Pair _ _) a b = x.Pair a b
 of_two_step _ a b = x.Append a b
 
-abbrev pub of_two : Raw → Expr → Expr → Expr
-of_two r a b = of_two_step (form_of r) a b
+abbrev pub standing_of_two : Raw → Expr → Expr → Expr
+standing_of_two r a b = of_two_step (form_of r) a b
 
 abbrev pub of_three_step : RawForm-F RawForm Raw → Expr → Expr → Expr → Expr
 of_three_step (o.If _ _ _) a b c = x.If a b c

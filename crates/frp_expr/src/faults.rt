@@ -2,7 +2,7 @@
 
 ghost use Rattle.std.specs.Prelude.{◌≡◌, Err};
 ghost use Rattle.frp_expr.specs.Raw.{or_fault};
-ghost use Rattle.frp_expr.specs.Gives.{Gives};
+ghost use Rattle.frp_expr.specs.Gives.{ExprGives};
 ghost use Rattle.frp_expr.specs.Types.{given};
 
 use crate::fault::{ExprStop, TypeFault, TypeKind};
@@ -17,7 +17,7 @@ pub fn stop<T>(place: u64, kind: TypeKind) -> Result<T, ExprStop>
 
 /// The type that there is, else a fault of a type at this place.
 pub fn right(found: Option<Ty>, place: u64) -> Result<Ty, ExprStop>
-    ensures { Gives (λ x. x) result (or_fault place TypeKind.Type found) }
+    ensures { ExprGives (λ x. x) result (or_fault place TypeKind.Type found) }
 {
     match found {
         Some(ty) => Ok(ty),

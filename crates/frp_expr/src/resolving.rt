@@ -3,7 +3,7 @@
 ghost use Rattle.std.specs.Prelude.{◌≡◌, ◌<◌, ◌^◌, ◌++◌, [], ◌∷◌, map, length, IsTrue, IfOk, OnOk};
 ghost use Rattle.frp_expr.specs.declared.expr.Expr.TheVariants as x;
 ghost use Rattle.frp_expr.specs.Forms.{is_unary, is_binary, is_agreeing};
-ghost use Rattle.frp_expr.specs.Standing.{of_one, of_two, of_three};
+ghost use Rattle.frp_expr.specs.Standing.{standing_of_one, standing_of_two, of_three};
 ghost use Rattle.frp_expr.specs.Scope.{number_of, names_of, fun_names};
 ghost use Rattle.frp_expr.specs.Raw.{ty_of, resolve, each_resolved};
 
@@ -181,7 +181,7 @@ fn agreeing(alloc: Global, raw: &Raw, scope: &Scope, bound: &mut Seq<Text>) -> R
 
 /// The expression of a written operator on this part.
 fn of_one(raw: &Raw, a: Boxed<Expr>) -> Expr
-    ensures { result ≡ of_one raw.now a }
+    ensures { result ≡ standing_of_one raw.now a }
 {
     match &raw.form {
         RawForm::Neg(_) => Expr::Neg(a),
@@ -195,7 +195,7 @@ fn of_one(raw: &Raw, a: Boxed<Expr>) -> Expr
 
 /// The expression of a written operator on these parts.
 fn of_two(raw: &Raw, a: Boxed<Expr>, b: Boxed<Expr>) -> Expr
-    ensures { result ≡ of_two raw.now a b }
+    ensures { result ≡ standing_of_two raw.now a b }
 {
     match &raw.form {
         RawForm::Add(_, _) => Expr::Add(a, b),

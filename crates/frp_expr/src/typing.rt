@@ -6,7 +6,7 @@ ghost use Rattle.frp_base.specs.declared.ty.Ty.{Ty};
 ghost use Rattle.frp_base.specs.declared.ty.Ty.TheVariants as t;
 ghost use Rattle.frp_expr.specs.Raw.{ty_part, typing, part_of, part_by, part_as, items_as, list_of, kept_as, close_of, closing, named_type, nil_type};
 ghost use Rattle.frp_expr.specs.Forms.{is_unary, is_binary, is_agreeing};
-ghost use Rattle.frp_expr.specs.Gives.{Gives};
+ghost use Rattle.frp_expr.specs.Gives.{ExprGives};
 
 use crate::fault::{ExprStop, TypeKind};
 use crate::faults::{given, right, stop};
@@ -28,7 +28,7 @@ pub fn typing(
     scope: &Scope,
     bound: &mut Seq<(Text, Ty)>,
 ) -> Result<Ty, ExprStop>
-    ensures ty { Gives (λ t. t) result (typing scope.now.funs raw.now (scope.now.names ++ bound.old)) }
+    ensures ty { ExprGives (λ t. t) result (typing scope.now.funs raw.now (scope.now.names ++ bound.old)) }
     ensures bound { OnOk result (bound.new ≡ bound.old) }
 {
     match &raw.form {
@@ -75,7 +75,7 @@ fn unary(
     bound: &mut Seq<(Text, Ty)>,
 ) -> Result<Ty, ExprStop>
     requires { IsTrue (is_unary raw.now) }
-    ensures ty { Gives (λ t. t) result (typing scope.now.funs raw.now (scope.now.names ++ bound.old)) }
+    ensures ty { ExprGives (λ t. t) result (typing scope.now.funs raw.now (scope.now.names ++ bound.old)) }
     ensures bound { OnOk result (bound.new ≡ bound.old) }
 {
     match &raw.form {
@@ -116,7 +116,7 @@ fn binary(
     bound: &mut Seq<(Text, Ty)>,
 ) -> Result<Ty, ExprStop>
     requires { IsTrue (is_binary raw.now) }
-    ensures ty { Gives (λ t. t) result (typing scope.now.funs raw.now (scope.now.names ++ bound.old)) }
+    ensures ty { ExprGives (λ t. t) result (typing scope.now.funs raw.now (scope.now.names ++ bound.old)) }
     ensures bound { OnOk result (bound.new ≡ bound.old) }
 {
     match &raw.form {
@@ -178,7 +178,7 @@ fn agreeing(
     bound: &mut Seq<(Text, Ty)>,
 ) -> Result<Ty, ExprStop>
     requires { IsTrue (is_agreeing raw.now) }
-    ensures ty { Gives (λ t. t) result (typing scope.now.funs raw.now (scope.now.names ++ bound.old)) }
+    ensures ty { ExprGives (λ t. t) result (typing scope.now.funs raw.now (scope.now.names ++ bound.old)) }
     ensures bound { OnOk result (bound.new ≡ bound.old) }
 {
     match &raw.form {
@@ -222,7 +222,7 @@ fn part(
     scope: &Scope,
     bound: &mut Seq<(Text, Ty)>,
 ) -> Result<Ty, ExprStop>
-    ensures ty { Gives (λ t. t) result (part_as ty (part_of scope.now.funs raw.now) (scope.now.names ++ bound.old)) }
+    ensures ty { ExprGives (λ t. t) result (part_as ty (part_of scope.now.funs raw.now) (scope.now.names ++ bound.old)) }
     ensures bound { OnOk result (bound.new ≡ bound.old) }
 {
     let found = typing(alloc, raw, scope, bound)?;
@@ -232,7 +232,7 @@ fn part(
 /// Tests that a part is a number.
 #[cycle(typing)]
 fn int(alloc: Global, raw: &Raw, scope: &Scope, bound: &mut Seq<(Text, Ty)>) -> Result<(), ExprStop>
-    ensures ty { Gives (λ _. t.Int) result (part_as t.Int (part_of scope.now.funs raw.now) (scope.now.names ++ bound.old)) }
+    ensures ty { ExprGives (λ _. t.Int) result (part_as t.Int (part_of scope.now.funs raw.now) (scope.now.names ++ bound.old)) }
     ensures bound { OnOk result (bound.new ≡ bound.old) }
 {
     is_part(alloc, raw, &Ty::Int, scope, bound)
@@ -246,7 +246,7 @@ fn bool(
     scope: &Scope,
     bound: &mut Seq<(Text, Ty)>,
 ) -> Result<(), ExprStop>
-    ensures ty { Gives (λ _. t.Bool) result (part_as t.Bool (part_of scope.now.funs raw.now) (scope.now.names ++ bound.old)) }
+    ensures ty { ExprGives (λ _. t.Bool) result (part_as t.Bool (part_of scope.now.funs raw.now) (scope.now.names ++ bound.old)) }
     ensures bound { OnOk result (bound.new ≡ bound.old) }
 {
     is_part(alloc, raw, &Ty::Bool, scope, bound)
@@ -260,7 +260,7 @@ fn text(
     scope: &Scope,
     bound: &mut Seq<(Text, Ty)>,
 ) -> Result<(), ExprStop>
-    ensures ty { Gives (λ _. t.Text) result (part_as t.Text (part_of scope.now.funs raw.now) (scope.now.names ++ bound.old)) }
+    ensures ty { ExprGives (λ _. t.Text) result (part_as t.Text (part_of scope.now.funs raw.now) (scope.now.names ++ bound.old)) }
     ensures bound { OnOk result (bound.new ≡ bound.old) }
 {
     is_part(alloc, raw, &Ty::Text, scope, bound)
@@ -277,7 +277,7 @@ fn within(
     scope: &Scope,
     bound: &mut Seq<(Text, Ty)>,
 ) -> Result<Ty, ExprStop>
-    ensures ty { Gives (λ t. t) result (typing scope.now.funs raw.now (scope.now.names ++ bound.old ++ (name.now.text, ty) ∷ [])) }
+    ensures ty { ExprGives (λ t. t) result (typing scope.now.funs raw.now (scope.now.names ++ bound.old ++ (name.now.text, ty) ∷ [])) }
     ensures bound { OnOk result (bound.new ≡ bound.old) }
 {
     bound.add((name.text.copy()?, ty))?;
@@ -295,7 +295,7 @@ fn list(
     scope: &Scope,
     bound: &mut Seq<(Text, Ty)>,
 ) -> Result<Ty, ExprStop>
-    ensures ty { Gives (λ t. t) result (list_of at (map (part_of scope.now.funs) items.now) (scope.now.names ++ bound.old)) }
+    ensures ty { ExprGives (λ t. t) result (list_of at (map (part_of scope.now.funs) items.now) (scope.now.names ++ bound.old)) }
     ensures bound { OnOk result (bound.new ≡ bound.old) }
 {
     if items.is_empty() {
@@ -314,7 +314,7 @@ fn plain(
     scope: &Scope,
     bound: &mut Seq<(Text, Ty)>,
 ) -> Result<Ty, ExprStop>
-    ensures ty { Gives (λ t. t) result (part_by (λ x. spec.given (spec.is_plain x) x) (part_of scope.now.funs raw.now) (scope.now.names ++ bound.old)) }
+    ensures ty { ExprGives (λ t. t) result (part_by (λ x. spec.given (spec.is_plain x) x) (part_of scope.now.funs raw.now) (scope.now.names ++ bound.old)) }
     ensures bound { OnOk result (bound.new ≡ bound.old) }
 {
     let ty = typing(alloc, raw, scope, bound)?;
@@ -331,7 +331,7 @@ fn items_of(
     bound: &mut Seq<(Text, Ty)>,
 ) -> Result<(), ExprStop>
     requires { 0 < length items.now }
-    ensures ty { Gives (λ _. t.List ty.now) result (items_as ty.now (map (part_of scope.now.funs) (drop 1 items.now)) (scope.now.names ++ bound.old)) }
+    ensures ty { ExprGives (λ _. t.List ty.now) result (items_as ty.now (map (part_of scope.now.funs) (drop 1 items.now)) (scope.now.names ++ bound.old)) }
     ensures bound { OnOk result (bound.new ≡ bound.old) }
 {
     for i in 1..items.len() {
@@ -349,7 +349,7 @@ fn is_part(
     scope: &Scope,
     bound: &mut Seq<(Text, Ty)>,
 ) -> Result<(), ExprStop>
-    ensures ty { Gives (λ _. ty.now) result (part_as ty.now (part_of scope.now.funs raw.now) (scope.now.names ++ bound.old)) }
+    ensures ty { ExprGives (λ _. ty.now) result (part_as ty.now (part_of scope.now.funs raw.now) (scope.now.names ++ bound.old)) }
     ensures bound { OnOk result (bound.new ≡ bound.old) }
 {
     let found = typing(alloc, raw, scope, bound)?;
@@ -369,7 +369,7 @@ fn close(
     scope: &Scope,
     bound: &mut Seq<(Text, Ty)>,
 ) -> Result<Ty, ExprStop>
-    ensures ty { Gives (λ t. t) result (closing scope.now.funs name.now (map (part_of scope.now.funs) kept.now) (scope.now.names ++ bound.old)) }
+    ensures ty { ExprGives (λ t. t) result (closing scope.now.funs name.now (map (part_of scope.now.funs) kept.now) (scope.now.names ++ bound.old)) }
     ensures bound { OnOk result (bound.new ≡ bound.old) }
 {
     match fun_named(scope.funs.as_slice(), &name.text) {
@@ -395,7 +395,7 @@ fn closed(
     scope: &Scope,
     bound: &mut Seq<(Text, Ty)>,
 ) -> Result<Ty, ExprStop>
-    ensures ty { Gives (λ t. t) result (close_of at fun.now (map (part_of scope.now.funs) kept.now) (scope.now.names ++ bound.old)) }
+    ensures ty { ExprGives (λ t. t) result (close_of at fun.now (map (part_of scope.now.funs) kept.now) (scope.now.names ++ bound.old)) }
     ensures bound { OnOk result (bound.new ≡ bound.old) }
 {
     if kept.len() != fun.1.as_slice().len() {
@@ -415,7 +415,7 @@ fn kept_of(
     bound: &mut Seq<(Text, Ty)>,
 ) -> Result<(), ExprStop>
     requires { length kept.now ≡ length fun.now.1 }
-    ensures ty { Gives (λ _. t.Fun fun.now.2 fun.now.3) result (kept_as fun.now.1 (map (part_of scope.now.funs) kept.now) (scope.now.names ++ bound.old) (t.Fun fun.now.2 fun.now.3)) }
+    ensures ty { ExprGives (λ _. t.Fun fun.now.2 fun.now.3) result (kept_as fun.now.1 (map (part_of scope.now.funs) kept.now) (scope.now.names ++ bound.old) (t.Fun fun.now.2 fun.now.3)) }
     ensures bound { OnOk result (bound.new ≡ bound.old) }
 {
     for (i, value) in kept.iter().enumerate() {
@@ -455,7 +455,7 @@ fn variable(
     scope: &Scope,
     bound: &[(Text, Ty)],
 ) -> Result<Ty, ExprStop>
-    ensures { Gives (λ x. x) result (named_type at name.now (scope.now.names ++ bound.now)) }
+    ensures { ExprGives (λ x. x) result (named_type at name.now (scope.now.names ++ bound.now)) }
 {
     match named(scope.names.as_slice(), bound, name) {
         Some((_, ty)) => Ok(ty.copy(alloc)?),
@@ -465,7 +465,7 @@ fn variable(
 
 /// The type of an empty list of items of the type that is written.
 fn nil(alloc: Global, ty: &RawTy) -> Result<Ty, ExprStop>
-    ensures { Gives (λ x. x) result (nil_type (ty_part ty.now)) }
+    ensures { ExprGives (λ x. x) result (nil_type (ty_part ty.now)) }
 {
     let ty = written_items(alloc, ty)?;
     Ok(list_type(alloc, ty)?)

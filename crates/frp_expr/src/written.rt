@@ -1,8 +1,8 @@
 //! The types that are written.
 
-ghost use Rattle.frp_expr.specs.Raw.{written, item_by, ty_part, ty_of};
+ghost use Rattle.frp_expr.specs.Raw.{type_written, item_by, ty_part, ty_of};
 ghost use Rattle.std.specs.Prelude.{◌≡◌, IfOk};
-ghost use Rattle.frp_expr.specs.Gives.{Gives};
+ghost use Rattle.frp_expr.specs.Gives.{ExprGives};
 
 use crate::fault::ExprStop;
 use crate::faults::{given, right};
@@ -14,7 +14,7 @@ use std::alloc::Global;
 /// The type that is written, or its first fault: the items of a list are of a plain type.
 #[cycle(written)]
 pub fn written(alloc: Global, raw: &RawTy) -> Result<Ty, ExprStop>
-    ensures { Gives (λ x. x) result (written raw.now) }
+    ensures { ExprGives (λ x. x) result (type_written raw.now) }
 {
     match &raw.form {
         TyForm::Int => Ok(Ty::Int),
@@ -48,7 +48,7 @@ pub fn written(alloc: Global, raw: &RawTy) -> Result<Ty, ExprStop>
 /// The type that is written, in a box.
 #[cycle(written)]
 fn part(alloc: Global, raw: &RawTy) -> Result<Boxed<Ty>, ExprStop>
-    ensures { Gives (λ x. x) result (written raw.now) }
+    ensures { ExprGives (λ x. x) result (type_written raw.now) }
 {
     let ty = written(alloc, raw)?;
     Ok(Boxed::new(alloc, ty)?)
@@ -57,7 +57,7 @@ fn part(alloc: Global, raw: &RawTy) -> Result<Boxed<Ty>, ExprStop>
 /// The type that is written for the items of a list, in a box.
 #[cycle(written)]
 fn item_part(alloc: Global, raw: &RawTy) -> Result<Boxed<Ty>, ExprStop>
-    ensures { Gives (λ x. x) result (item_by (ty_part raw.now)) }
+    ensures { ExprGives (λ x. x) result (item_by (ty_part raw.now)) }
 {
     let ty = item_type(alloc, raw)?;
     Ok(Boxed::new(alloc, ty)?)
@@ -66,7 +66,7 @@ fn item_part(alloc: Global, raw: &RawTy) -> Result<Boxed<Ty>, ExprStop>
 /// The type that is written for the items of a list, or its first fault.
 #[cycle(written)]
 pub fn item_type(alloc: Global, raw: &RawTy) -> Result<Ty, ExprStop>
-    ensures { Gives (λ x. x) result (item_by (ty_part raw.now)) }
+    ensures { ExprGives (λ x. x) result (item_by (ty_part raw.now)) }
 {
     let ty = written(alloc, raw)?;
     let plain = is_plain(&ty);

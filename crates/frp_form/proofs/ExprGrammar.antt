@@ -14,7 +14,7 @@ use Rattle.frp_form.specs.declared.heads.Head.TheVariants as h
 use Rattle.frp_form.specs.declared.heads.Unary.{Unary}
 use Rattle.frp_form.specs.declared.heads.Binary.{Binary}
 use Rattle.frp_form.specs.declared.heads.Ternary.{Ternary}
-use Rattle.frp_form.specs.Gives.{Outcome, Parser}
+use Rattle.frp_form.specs.Gives.{FormOutcome, Parser}
 use Rattle.frp_form.specs.Tokens.{right, spot, head, after_right, is_literal}
 use Rattle.frp_form.specs.Types.{ty_at}
 use Rattle.frp_form.specs.Heads.{head_of, raw_at, name_form}
@@ -188,7 +188,7 @@ module _ (end : ℕ) (ty : Parser RawTy) (part : Parser Raw) (Ty : RawTy → Lis
 
   -- ---- an expression is read
 
-  form_read : (a b : ℕ) (op : Head) (inside : List Token) (y : Outcome (Raw × List Token)) → parts_at end part ty a op inside ≡ y → expr_layer end part ty (left_at a ∷ name_at b (word_of_expr op) ∷ inside) ≡ y
+  form_read : (a b : ℕ) (op : Head) (inside : List Token) (y : FormOutcome (Raw × List Token)) → parts_at end part ty a op inside ≡ y → expr_layer end part ty (left_at a ∷ name_at b (word_of_expr op) ∷ inside) ≡ y
   unfolding expr_layer form_at
   form_read a b op inside y e = rw (head_read end b head_of (word_of_expr op) op inside (expr_known op)) e
 

@@ -14,7 +14,7 @@ use Rattle.frp_form.specs.Tokens.{left, right, spot, head}
 use Rattle.frp_form.specs.Types.{whole_ty}
 use Rattle.frp_form.specs.Exprs.{whole_expr}
 use Rattle.frp_form.specs.Shapes.{shape}
-use Rattle.frp_form.specs.Items.{body_head, sink_at, cellsink_at, let_at, tie_at, get_at, item_at, item_parts, body_item}
+use Rattle.frp_form.specs.Items.{body_head, sink_at, cellsink_at, let_at, tie_at, get_at, placed_item, item_parts, body_item}
 use Rattle.frp_form.specs.Decls.{before_give}
 use Rattle.frp_form.specs.Grammar.{left_at, right_at, name_at, name_of, IsUser, IsType, IsExpr, IsShape, IsCommonItem, let_item, tie_item, IsItem, sink_item, cellsink_item, IsBodyItem, common_in_body, get_item}
 use Rattle.frp_form.proofs.Steps.{bind_ok, Begins, Sound, Complete, made, ends_with, both, and_one, one_and, one, inside, flat, flat₂, left_sound, right_sound, spot_sound, spot_read, head_sound}
@@ -113,28 +113,28 @@ module _ (end : ℕ) where
 
   -- ---- an item is read
 
-  pub let_read : (a c : ℕ) (x : Spot) (y : RawShape) (us rest : List Token) → IsUser x → IsShape y us → let_at end a (name_of x ∷ (us ++ right_at c ∷ []) ++ rest) ≡ Ok (item_at a (i.Let x y), rest)
+  pub let_read : (a c : ℕ) (x : Spot) (y : RawShape) (us rest : List Token) → IsUser x → IsShape y us → let_at end a (name_of x ∷ (us ++ right_at c ∷ []) ++ rest) ≡ Ok (placed_item a (i.Let x y), rest)
   unfolding let_at right
   let_read a c x y us rest user is =
       ap (λ l. let_at end a (name_of x ∷ l)) (flat us (right_at c ∷ []) rest) ∙ rw (spot_read end x (us ++ right_at c ∷ rest) user, shape_read end y us (right_at c ∷ rest) is) refl
 
-  pub tie_read : (a c : ℕ) (x y : Spot) (rest : List Token) → IsUser x → IsUser y → tie_at end a (name_of x ∷ name_of y ∷ right_at c ∷ rest) ≡ Ok (item_at a (i.Tie x y), rest)
+  pub tie_read : (a c : ℕ) (x y : Spot) (rest : List Token) → IsUser x → IsUser y → tie_at end a (name_of x ∷ name_of y ∷ right_at c ∷ rest) ≡ Ok (placed_item a (i.Tie x y), rest)
   unfolding tie_at right
   tie_read a c x y rest user users = rw (spot_read end x (name_of y ∷ right_at c ∷ rest) user, spot_read end y (right_at c ∷ rest) users) refl
 
-  pub sink_read : (a c : ℕ) (x : Spot) (y : RawTy) (us rest : List Token) → IsUser x → IsType y us → sink_at end a (name_of x ∷ (us ++ right_at c ∷ []) ++ rest) ≡ Ok (item_at a (i.Sink x y), rest)
+  pub sink_read : (a c : ℕ) (x : Spot) (y : RawTy) (us rest : List Token) → IsUser x → IsType y us → sink_at end a (name_of x ∷ (us ++ right_at c ∷ []) ++ rest) ≡ Ok (placed_item a (i.Sink x y), rest)
   unfolding sink_at right
   sink_read a c x y us rest user is =
       ap (λ l. sink_at end a (name_of x ∷ l)) (flat us (right_at c ∷ []) rest) ∙ rw (spot_read end x (us ++ right_at c ∷ rest) user, type_read end y us (right_at c ∷ rest) is) refl
 
   pub cellsink_read : (a c : ℕ) (x y : Spot) (z : RawTy) (v : Raw) (us vs rest : List Token) → IsUser x → IsUser y → IsType z us → IsExpr v vs
-      → cellsink_at end a (name_of x ∷ name_of y ∷ (us ++ vs ++ right_at c ∷ []) ++ rest) ≡ Ok (item_at a (i.Cellsink x y z v), rest)
+      → cellsink_at end a (name_of x ∷ name_of y ∷ (us ++ vs ++ right_at c ∷ []) ++ rest) ≡ Ok (placed_item a (i.Cellsink x y z v), rest)
   unfolding cellsink_at right
   cellsink_read a c x y z v us vs rest user users is js =
       ap (λ l. cellsink_at end a (name_of x ∷ name_of y ∷ l)) (flat₂ us vs (right_at c ∷ []) rest)
       ∙ rw (spot_read end x (name_of y ∷ us ++ (vs ++ right_at c ∷ rest)) user, spot_read end y (us ++ (vs ++ right_at c ∷ rest)) users, type_read end z us (vs ++ right_at c ∷ rest) is, expr_read end v vs (right_at c ∷ rest) js) refl
 
-  get_read : (a c : ℕ) (x : Spot) (v : Raw) (vs rest : List Token) → IsUser x → IsExpr v vs → get_at end a (name_of x ∷ (vs ++ right_at c ∷ []) ++ rest) ≡ Ok (item_at a (i.Get x v), rest)
+  get_read : (a c : ℕ) (x : Spot) (v : Raw) (vs rest : List Token) → IsUser x → IsExpr v vs → get_at end a (name_of x ∷ (vs ++ right_at c ∷ []) ++ rest) ≡ Ok (placed_item a (i.Get x v), rest)
   unfolding get_at right
   get_read a c x v vs rest user is =
       ap (λ l. get_at end a (name_of x ∷ l)) (flat vs (right_at c ∷ []) rest) ∙ rw (spot_read end x (vs ++ right_at c ∷ rest) user, expr_read end v vs (right_at c ∷ rest) is) refl

@@ -3,7 +3,7 @@ use Rattle.std.proofs.Common.{◌≡◌, ℕ, zero, suc, ◌<◌, ◌≤◌, Lis
 use Rattle.frp_lex.specs.declared.token.Token.{Token}
 use Rattle.frp_form.specs.declared.fault.FormFault.{FormFault}
 use Rattle.frp_form.specs.declared.over.Over.TheVariants as o
-use Rattle.frp_form.specs.Gives.{Outcome, Parser, ◌>>=◌}
+use Rattle.frp_form.specs.Gives.{FormOutcome, Parser, ◌>>=◌}
 use Rattle.frp_form.specs.Lists.{ended, items, many, over_at}
 use Rattle.frp_form.specs.Grammar.{AreAll, none, more}
 use Rattle.frp_form.proofs.ListLemmas.{one_item}
@@ -22,7 +22,7 @@ module _ {A : Type 0} (ends : List Token → Option (List Token)) (over : List T
   no_more : (n : ℕ) (ts after : List Token) → ends ts ≡ Some after → Listed ends Is n [] ts after
   no_more n ts after h = record { front = []; tail = ts; parts = record { is = refl }; ended_here = h; all = none; few = omega arith }
 
-  ended_or : (n : ℕ) (ts : List Token) (x : List A × List Token) (q : Option (List Token)) (m : Outcome (List A × List Token)) → ends ts ≡ q → ended ends over item q m ≡ Ok x → (m ≡ Ok x → Listed ends Is n x.0 ts x.1) → Listed ends Is n x.0 ts x.1
+  ended_or : (n : ℕ) (ts : List Token) (x : List A × List Token) (q : Option (List Token)) (m : FormOutcome (List A × List Token)) → ends ts ≡ q → ended ends over item q m ≡ Ok x → (m ≡ Ok x → Listed ends Is n x.0 ts x.1) → Listed ends Is n x.0 ts x.1
   ended_or n ts x (Some after) m e h go = subst (λ (y : List A × List Token). Listed ends Is n y.0 ts y.1) (ok_of ([], after) x h) (no_more n ts after e)
   ended_or n ts x None m e h go = go h
 
@@ -50,7 +50,7 @@ module _ {A : Type 0} (ends : List Token → Option (List Token)) (over : List T
   items_read complete starts (suc n) xs ts tail after (more y ys us vs is all) few e =
       ap (items ends over item (suc n)) (append_assoc us vs tail)
       ∙ one_item ends over item n (us ++ (vs ++ tail)) y (vs ++ tail) (starts y us (vs ++ tail) is) (complete y us (vs ++ tail) is)
-      ∙ ap (λ (r : Outcome (List A × List Token)). r >>= λ xs. Ok (y ∷ xs.0, xs.1)) (items_read complete starts n ys vs tail after all (omega (arith, few)) e)
+      ∙ ap (λ (r : FormOutcome (List A × List Token)). r >>= λ xs. Ok (y ∷ xs.0, xs.1)) (items_read complete starts n ys vs tail after all (omega (arith, few)) e)
 
   some_tokens : Starts → (tail after : List Token) → ends tail ≡ Some after → (x : A) (ts : List Token) → Is x ts → 0 < length ts
   some_tokens starts tail after e x [] is = let s : ends tail ≡ None = starts x [] tail is in absurd cc

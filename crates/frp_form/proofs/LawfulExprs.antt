@@ -16,8 +16,8 @@ use Rattle.frp_expr.specs.Raw.{is_lawful_step, is_lawful}
 use Rattle.frp_base.proofs.Booleans.{both_true, true_both}
 use Rattle.frp_lex.specs.declared.token.Kind.TheVariants as k
 use Rattle.frp_lex.specs.declared.token.Token.{Token}
-use Rattle.frp_lex.specs.Atoms.{fits as fits_token}
-use Rattle.frp_lex.specs.Spelling.{is_lawful as is_lawful_kind, are_lawful, kinds}
+use Rattle.frp_lex.specs.Atoms.{fits_token}
+use Rattle.frp_lex.specs.Spelling.{is_lawful_token, are_lawful, kinds}
 use Rattle.frp_form.specs.declared.heads.Unary.{Unary}
 use Rattle.frp_form.specs.declared.heads.Unary.TheVariants as un
 use Rattle.frp_form.specs.declared.heads.Binary.{Binary}
@@ -32,12 +32,12 @@ use Rattle.frp_form.specs.Grammar.{AreAll, none, more, ExprCase, number, text, t
 pub record AreLawful (ts : List Token) : Type 0 where
   pub each : are_lawful (kinds ts) ≡ true
 
-pub first_lawful : {t : Token} {ts : List Token} → AreLawful (t ∷ ts) → is_lawful_kind t.kind ≡ true
-first_lawful {t} {ts} l = (both_true (is_lawful_kind t.kind) (are_lawful (kinds ts)) l.each).0
+pub first_lawful : {t : Token} {ts : List Token} → AreLawful (t ∷ ts) → is_lawful_token t.kind ≡ true
+first_lawful {t} {ts} l = (both_true (is_lawful_token t.kind) (are_lawful (kinds ts)) l.each).0
 
 -- those behind the first
 pub others_lawful : {t : Token} {ts : List Token} → AreLawful (t ∷ ts) → AreLawful ts
-others_lawful {t} {ts} l = record { each = (both_true (is_lawful_kind t.kind) (are_lawful (kinds ts)) l.each).1 }
+others_lawful {t} {ts} l = record { each = (both_true (is_lawful_token t.kind) (are_lawful (kinds ts)) l.each).1 }
 
 -- those behind the two that a form begins with
 pub inside_lawful : {t u : Token} {ts : List Token} → AreLawful (t ∷ u ∷ ts) → AreLawful ts
@@ -46,9 +46,9 @@ inside_lawful l = others_lawful (others_lawful l)
 parts_lawful : (ts us : List Token) → are_lawful (kinds (ts ++ us)) ≡ true → (are_lawful (kinds ts) ≡ true) × (are_lawful (kinds us) ≡ true)
 parts_lawful [] us h = (refl, h)
 parts_lawful (t ∷ ts) us h =
-    let p = both_true (is_lawful_kind t.kind) (are_lawful (kinds (ts ++ us))) h in
+    let p = both_true (is_lawful_token t.kind) (are_lawful (kinds (ts ++ us))) h in
     let q = parts_lawful ts us p.1 in
-    (true_both (is_lawful_kind t.kind) (are_lawful (kinds ts)) p.0 q.0, q.1)
+    (true_both (is_lawful_token t.kind) (are_lawful (kinds ts)) p.0 q.0, q.1)
 
 pub front_lawful : (ts us : List Token) → AreLawful (ts ++ us) → AreLawful ts
 front_lawful ts us l = record { each = (parts_lawful ts us l.each).0 }
@@ -110,14 +110,14 @@ pub number_fits : (z : ℤ) → fits_token z ≡ fits z
 number_fits (pos n) = refl
 number_fits (negsuc n) = refl
 
-number_lawful : (a : ℕ) (z : ℤ) → is_lawful_kind (k.Num z) ≡ true → is_lawful (raw_at a (f.Int z)) ≡ true
+number_lawful : (a : ℕ) (z : ℤ) → is_lawful_token (k.Num z) ≡ true → is_lawful (raw_at a (f.Int z)) ≡ true
 number_lawful a z h = opens a (f.Int z) (o.Int z) (f.rolls-Int z) ∙ sym (number_fits z) ∙ h
 
 -- the text of a token is printable and of at most 1,024 bytes, as one of an expression
-pub text_is_text : (s : List ℕ) → is_lawful_kind (k.Str s) ≡ is_text s
+pub text_is_text : (s : List ℕ) → is_lawful_token (k.Str s) ≡ is_text s
 text_is_text s = refl
 
-text_lawful : (a : ℕ) (s : List ℕ) → is_lawful_kind (k.Str s) ≡ true → is_lawful (raw_at a (f.Text s)) ≡ true
+text_lawful : (a : ℕ) (s : List ℕ) → is_lawful_token (k.Str s) ≡ true → is_lawful (raw_at a (f.Text s)) ≡ true
 text_lawful a s h = opens a (f.Text s) (o.Text s) (f.rolls-Text s) ∙ sym (text_is_text s) ∙ h
 
 within : (n : ℕ) → 0 < n → n ≤ 1024 → (nat_le 1 n ≡ true) × (nat_le n most ≡ true)

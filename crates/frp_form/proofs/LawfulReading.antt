@@ -9,7 +9,7 @@ use Rattle.frp_expr.specs.Raw.{is_lawful}
 use Rattle.frp_base.proofs.Booleans.{true_both}
 use Rattle.frp_lex.specs.declared.token.Token.{Token}
 use Rattle.frp_file.specs.declared.file.Item.{Item}
-use Rattle.frp_file.specs.LawfulParts.{is_lawful_shape, is_lawful_item, is_lawful_decl, is_lawful_sender, has_lawful_parts}
+use Rattle.frp_file.specs.LawfulParts.{are_shape_parts_lawful, are_item_parts_lawful, are_decl_parts_lawful, are_sender_parts_lawful, has_lawful_parts}
 use Rattle.frp_form.specs.declared.shape_heads.TyShape.{TyShape}
 use Rattle.frp_form.specs.declared.shape_heads.TyShape.TheVariants as on_type
 use Rattle.frp_form.specs.declared.shape_heads.UnaryShape.{UnaryShape}
@@ -25,7 +25,7 @@ use Rattle.frp_form.specs.declared.shape_heads.FoldShape.TheVariants as on_fold
 use Rattle.frp_form.specs.declared.reading.Reading.{Reading}
 use Rattle.frp_form.specs.ShapeHeads.{typed_shape, unary_shape, binary_shape, map_shape, join_shape, fold_shape}
 use Rattle.frp_form.specs.Grammar.{IsExpr, IsShape, typed, shape_of_one, shape_of_two, mapping, joining, folding, lifting, executing, IsCommonItem, let_item, tie_item, IsItem, common, sink_item, cellsink_item, IsBodyItem, common_in_body, get_item, IsGive, give_is, IsTemplate, template_is, IsFunction, function_is, IsDecl, template_decl, function_decl, item_decl, IsGraph, graph_is, IsSend, send_is, IsSender, sender_is, IsFile, file_is}
-use Rattle.frp_form.specs.LawfulReading.{ReadIsLawful}
+use Rattle.frp_form.specs.LawfulReading.{ReadHasLawfulParts}
 use Rattle.frp_form.proofs.LawfulExprs.{AreLawful, others_lawful, inside_lawful, front_lawful, rest_lawful, Passes, all_pass, expr_lawful}
 use Rattle.frp_form.proofs.FileGrammar.{read_is_grammar_lem}
 
@@ -34,12 +34,12 @@ Lawful x = is_lawful x ≡ true
 
 -- ---- shapes
 
-of_type : (op : TyShape) (ty : RawTy) → is_lawful_shape (typed_shape op ty) ≡ true
+of_type : (op : TyShape) (ty : RawTy) → are_shape_parts_lawful (typed_shape op ty) ≡ true
 of_type on_type.Never ty = refl
 of_type on_type.Loops ty = refl
 of_type on_type.Loopc ty = refl
 
-of_one : (op : UnaryShape) (x : Raw) → Lawful x → is_lawful_shape (unary_shape op x) ≡ true
+of_one : (op : UnaryShape) (x : Raw) → Lawful x → are_shape_parts_lawful (unary_shape op x) ≡ true
 of_one on_one.Constant x p = p
 of_one on_one.Split x p = p
 of_one on_one.Updates x p = p
@@ -49,13 +49,13 @@ of_one on_one.Switchc x p = p
 of_one on_one.Once x p = p
 of_one on_one.Defer x p = p
 
-of_two : (op : BinaryShape) (x y : Raw) → Lawful x → Lawful y → is_lawful_shape (binary_shape op x y) ≡ true
+of_two : (op : BinaryShape) (x y : Raw) → Lawful x → Lawful y → are_shape_parts_lawful (binary_shape op x y) ≡ true
 of_two on_two.Hold x y p q = true_both _ _ p q
 of_two on_two.Apply x y p q = true_both _ _ p q
 of_two on_two.Orelse x y p q = true_both _ _ p q
 of_two on_two.Gate x y p q = true_both _ _ p q
 
-of_map : (op : MapShape) (v : Spot) (x e : Raw) → Lawful x → Lawful e → is_lawful_shape (map_shape op v x e) ≡ true
+of_map : (op : MapShape) (v : Spot) (x e : Raw) → Lawful x → Lawful e → are_shape_parts_lawful (map_shape op v x e) ≡ true
 of_map on_map.Map v x e p q = true_both _ _ p q
 of_map on_map.Mapc v x e p q = true_both _ _ p q
 of_map on_map.Filter v x e p q = true_both _ _ p q
@@ -63,11 +63,11 @@ of_map on_map.Filter v x e p q = true_both _ _ p q
 all_three : (x y e : Raw) → Lawful x → Lawful y → Lawful e → is_lawful x && is_lawful y && is_lawful e ≡ true
 all_three x y e p q r = true_both _ _ (true_both _ _ p q) r
 
-of_join : (op : JoinShape) (v w : Spot) (x y e : Raw) → Lawful x → Lawful y → Lawful e → is_lawful_shape (join_shape op v w x y e) ≡ true
+of_join : (op : JoinShape) (v w : Spot) (x y e : Raw) → Lawful x → Lawful y → Lawful e → are_shape_parts_lawful (join_shape op v w x y e) ≡ true
 of_join on_join.Merge v w x y e p q r = all_three x y e p q r
 of_join on_join.Snapshot v w x y e p q r = all_three x y e p q r
 
-of_fold : (op : FoldShape) (ty : RawTy) (v w : Spot) (x y e : Raw) → Lawful x → Lawful y → Lawful e → is_lawful_shape (fold_shape op ty v w x y e) ≡ true
+of_fold : (op : FoldShape) (ty : RawTy) (v w : Spot) (x y e : Raw) → Lawful x → Lawful y → Lawful e → are_shape_parts_lawful (fold_shape op ty v w x y e) ≡ true
 of_fold on_fold.Accum ty v w x y e p q r = all_three x y e p q r
 of_fold on_fold.Collect ty v w x y e p q r = all_three x y e p q r
 
@@ -84,7 +84,7 @@ three x y e xs ys es is js ks l =
     let m = front_lawful _ _ l in
     (one x xs is (front_lawful _ _ m), one y ys js (rest_lawful _ _ m), one e es ks (rest_lawful _ _ l))
 
-shape_lawful : Passes IsShape (λ x. is_lawful_shape x.form)
+shape_lawful : Passes IsShape (λ x. are_shape_parts_lawful x.form)
 shape_lawful s us (typed a b c op ty vs is) l = of_type op ty
 shape_lawful s us (shape_of_one a b c op x xs is) l = of_one op x (one x xs is (front_lawful _ _ (inside_lawful l)))
 shape_lawful s us (shape_of_two a b c op x y xs ys is js) l = let p = two x y xs ys is js (front_lawful _ _ (inside_lawful l)) in of_two op x y p.0 p.1
@@ -108,7 +108,7 @@ shape_lawful s us (executing a b c x n kept xs vs is user all) l =
 -- ---- items
 
 abbrev item_test : Item → Bool
-item_test x = is_lawful_item x.form
+item_test x = are_item_parts_lawful x.form
 
 common_lawful : Passes IsCommonItem item_test
 common_lawful x us (let_item a b c n s vs user is) l = shape_lawful s vs is (front_lawful _ _ (others_lawful (inside_lawful l)))
@@ -136,25 +136,25 @@ template_lawful x us (template_is a b c n p kept items give ps ks is gs user par
 function_lawful : Passes IsFunction (λ x. is_lawful x.e)
 function_lawful x us (function_is a b c n kept arg e ks ps es user names param is) l = one e es is (rest_lawful _ _ (front_lawful _ _ (others_lawful (inside_lawful l))))
 
-decl_lawful : Passes IsDecl is_lawful_decl
+decl_lawful : Passes IsDecl are_decl_parts_lawful
 decl_lawful x us (template_decl y vs is) l = template_lawful y vs is l
 decl_lawful x us (function_decl y vs is) l = function_lawful y vs is l
 decl_lawful x us (item_decl y vs is) l = item_lawful y vs is l
 
 -- ---- files
 
-graph_lawful : Passes IsGraph (λ g. list_all is_lawful_decl g.decls)
-graph_lawful g us (graph_is a b c decls vs all) l = all_pass IsDecl is_lawful_decl decl_lawful decls vs all (front_lawful _ _ (inside_lawful l))
+graph_lawful : Passes IsGraph (λ g. list_all are_decl_parts_lawful g.decls)
+graph_lawful g us (graph_is a b c decls vs all) l = all_pass IsDecl are_decl_parts_lawful decl_lawful decls vs all (front_lawful _ _ (inside_lawful l))
 
 send_lawful : Passes IsSend (λ x. is_lawful x.value)
 send_lawful s us (send_is a b c n e es user is) l = one e es is (front_lawful _ _ (others_lawful (inside_lawful l)))
 
-sender_lawful : Passes IsSender is_lawful_sender
+sender_lawful : Passes IsSender are_sender_parts_lawful
 sender_lawful s us (sender_is a b c sends vs few all) l = all_pass IsSend (λ x. is_lawful x.value) send_lawful sends vs all (front_lawful _ _ (inside_lawful l))
 
 file_lawful : (how : Reading) → Passes (IsFile how) has_lawful_parts
 file_lawful how f us (file_is g listens senders gs ls ss first are others few) l =
-    true_both _ _ (graph_lawful g gs first (front_lawful _ _ (front_lawful _ _ l))) (all_pass IsSender is_lawful_sender sender_lawful senders ss others (rest_lawful _ _ l))
+    true_both _ _ (graph_lawful g gs first (front_lawful _ _ (front_lawful _ _ l))) (all_pass IsSender are_sender_parts_lawful sender_lawful senders ss others (rest_lawful _ _ l))
 
-pub read_is_lawful_lem : ReadIsLawful
-read_is_lawful_lem end how us f l h = file_lawful how f us (read_is_grammar_lem end how us f h) (record { each = l })
+pub parts_are_lawful_lem : ReadHasLawfulParts
+parts_are_lawful_lem end how us f l h = file_lawful how f us (read_is_grammar_lem end how us f h) (record { each = l })

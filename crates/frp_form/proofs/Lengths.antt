@@ -2,11 +2,11 @@
 use Rattle.std.proofs.Common.{◌≡◌, ℕ, zero, suc, ◌+◌, ◌-◌, ◌≤◌, List, [], ◌∷◌, length, Option, Some, None, Ok, Err, refl, ap, arith}
 use Rattle.frp_lex.specs.declared.token.Kind.{Kind}
 use Rattle.frp_lex.specs.declared.token.Token.{Token}
-use Rattle.frp_lex.specs.Gives.{Outcome, ◌>>=◌}
+use Rattle.frp_lex.specs.Gives.{LexOutcome, ◌>>=◌}
 use Rattle.frp_lex.specs.Tokens.{Piece, front, put, tokens_from, tokens}
 use Rattle.frp_form.specs.LawfulReading.{TokensAreFew}
 
-tokens_or : List Token → Outcome (List Token) → List Token
+tokens_or : List Token → LexOutcome (List Token) → List Token
 tokens_or d (Ok ts) = ts
 tokens_or d (Err e) = d
 
@@ -16,20 +16,20 @@ put_length at None ts = omega arith
 put_length at (Some kind) ts = omega arith
 
 -- a step that comes to tokens comes to no more than one more than those behind it
-abbrev AtMost : ℕ → Outcome (List Token) → Type 0
+abbrev AtMost : ℕ → LexOutcome (List Token) → Type 0
 AtMost n r = (ts : List Token) → r ≡ Ok ts → length ts ≤ n
 
 ok_most : (n : ℕ) (us : List Token) → length us ≤ n → AtMost n (Ok us)
 unfolding tokens_or
 ok_most n us le ts h = let e : length us ≡ length ts = ap (λ r. length (tokens_or [] r)) h in omega arith
 
-one_more : (n at : ℕ) (o : Option Kind) (r : Outcome (List Token)) → AtMost n r → AtMost (suc n) (r >>= λ us. Ok (put at o us))
+one_more : (n at : ℕ) (o : Option Kind) (r : LexOutcome (List Token)) → AtMost n r → AtMost (suc n) (r >>= λ us. Ok (put at o us))
 one_more n at o (Ok us) few ts h =
     let le : length us ≤ n = few us refl in
     ok_most (suc n) (put at o us) (let p = put_length at o us in omega arith) ts h
 one_more n at o (Err e) few ts h = absurd cc
 
-by_front : (at : ℕ) (bs : List ℕ) → ((left at : ℕ) → AtMost (length bs) (tokens_from left at bs)) → (r : Outcome Piece) → AtMost (suc (length bs)) (r >>= λ piece. tokens_from (piece.1 - 1) (at + 1) bs >>= λ us. Ok (put at piece.0 us))
+by_front : (at : ℕ) (bs : List ℕ) → ((left at : ℕ) → AtMost (length bs) (tokens_from left at bs)) → (r : LexOutcome Piece) → AtMost (suc (length bs)) (r >>= λ piece. tokens_from (piece.1 - 1) (at + 1) bs >>= λ us. Ok (put at piece.0 us))
 by_front at bs ih (Ok piece) ts h = one_more (length bs) at piece.0 (tokens_from (piece.1 - 1) (at + 1) bs) (ih (piece.1 - 1) (at + 1)) ts h
 by_front at bs ih (Err f) ts h = absurd cc
 

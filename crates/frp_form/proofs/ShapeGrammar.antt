@@ -13,7 +13,7 @@ use Rattle.frp_form.specs.declared.shape_heads.JoinShape.{JoinShape}
 use Rattle.frp_form.specs.declared.shape_heads.FoldShape.{FoldShape}
 use Rattle.frp_form.specs.declared.shape_heads.ShapeHead.{ShapeHead}
 use Rattle.frp_form.specs.declared.shape_heads.ShapeHead.TheVariants as h
-use Rattle.frp_form.specs.Gives.{Outcome}
+use Rattle.frp_form.specs.Gives.{FormOutcome}
 use Rattle.frp_form.specs.Tokens.{left, right, spot, two_names, head, after_right}
 use Rattle.frp_form.specs.Types.{whole_ty}
 use Rattle.frp_form.specs.Exprs.{whole_expr, kept_exprs}
@@ -192,7 +192,7 @@ module _ (end : ℕ) where
 
   -- ---- a shape is read
 
-  parts_read : (a b : ℕ) (op : ShapeHead) (inside : List Token) (y : Outcome (RawShape × List Token)) → shape_parts end a op inside ≡ y → shape end (left_at a ∷ name_at b (word_of_shape op) ∷ inside) ≡ y
+  parts_read : (a b : ℕ) (op : ShapeHead) (inside : List Token) (y : FormOutcome (RawShape × List Token)) → shape_parts end a op inside ≡ y → shape end (left_at a ∷ name_at b (word_of_shape op) ∷ inside) ≡ y
   unfolding shape left
   parts_read a b op inside y e = rw (head_read end b shape_head (word_of_shape op) op inside (shape_known op)) e
 

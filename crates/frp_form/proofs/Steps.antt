@@ -7,16 +7,16 @@ use Rattle.frp_expr.specs.declared.raw.Spot.{Spot}
 use Rattle.frp_lex.specs.declared.token.Kind.{Kind}
 use Rattle.frp_lex.specs.declared.token.Kind.TheVariants as k
 use Rattle.frp_lex.specs.declared.token.Token.{Token}
-use Rattle.frp_form.specs.Gives.{Outcome, Parser, ◌>>=◌}
+use Rattle.frp_form.specs.Gives.{FormOutcome, Parser, ◌>>=◌}
 use Rattle.frp_form.specs.Tokens.{unexpected, left, right, word, opened, spot, two_names, is_literal, head, head_is}
 use Rattle.frp_form.specs.Grammar.{left_at, right_at, name_at, name_of, IsUser}
 
 -- ---- outcomes
 
-abbrev pub Says : {A : Type 0} → Outcome A → A → Type 0
+abbrev pub Says : {A : Type 0} → FormOutcome A → A → Type 0
 Says r x = r ≡ Ok x
 
-ok_or : {A : Type 0} → A → Outcome A → A
+ok_or : {A : Type 0} → A → FormOutcome A → A
 ok_or d (Ok x) = x
 ok_or d (Err e) = d
 
@@ -25,7 +25,7 @@ unfolding ok_or
 ok_of x y h = ap (ok_or x) h
 
 -- where two steps come to something, so does the first, and then the second
-pub bind_ok : {A B : Type 0} (r : Outcome A) (f : A → Outcome B) (y : B) → Says (r >>= f) y → (x : A) × (r ≡ Ok x) × (f x ≡ Ok y)
+pub bind_ok : {A B : Type 0} (r : FormOutcome A) (f : A → FormOutcome B) (y : B) → Says (r >>= f) y → (x : A) × (r ≡ Ok x) × (f x ≡ Ok y)
 bind_ok (Ok x) f y h = (x, refl, h)
 bind_ok (Err e) f y h = absurd cc
 

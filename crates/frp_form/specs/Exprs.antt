@@ -13,7 +13,7 @@ use Rattle.frp_form.specs.declared.heads.Head.TheVariants as h
 use Rattle.frp_form.specs.declared.heads.Unary.{Unary}
 use Rattle.frp_form.specs.declared.heads.Binary.{Binary}
 use Rattle.frp_form.specs.declared.heads.Ternary.{Ternary}
-use Rattle.frp_form.specs.Gives.{Outcome, Parser, ◌>>=◌, fault}
+use Rattle.frp_form.specs.Gives.{FormOutcome, Parser, ◌>>=◌, fault}
 use Rattle.frp_form.specs.Tokens.{unexpected, too_deep, right, spot, head, after_right}
 use Rattle.frp_form.specs.Lists.{items}
 use Rattle.frp_form.specs.Types.{ty_at}
@@ -102,7 +102,7 @@ module _ (end : ℕ) (part : Parser Raw) where
     op ← head end head_of ts
     parts_at ty at op.0 op.1
 
-  abbrev pub expr_by : Parser RawTy → Token → List Token → Kind → Outcome (Raw × List Token)
+  abbrev pub expr_by : Parser RawTy → Token → List Token → Kind → FormOutcome (Raw × List Token)
   expr_by ty t ts k.Left = form_at ty t.at ts
   expr_by ty t ts (k.Num z) = Ok (raw_at t.at (f.Int z), ts)
   expr_by ty t ts (k.Str s) = Ok (raw_at t.at (f.Text s), ts)

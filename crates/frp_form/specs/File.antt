@@ -9,7 +9,7 @@ use Rattle.frp_file.specs.declared.file.RawSend.{RawSend}
 use Rattle.frp_form.specs.declared.fault.FormKind.TheVariants as kind
 use Rattle.frp_form.specs.declared.over.Over.TheVariants as o
 use Rattle.frp_form.specs.declared.reading.Reading.{Reading}
-use Rattle.frp_form.specs.Gives.{Outcome, Parser, ◌>>=◌}
+use Rattle.frp_form.specs.Gives.{FormOutcome, Parser, ◌>>=◌}
 use Rattle.frp_form.specs.Tokens.{right, spot, opened, begins, after_right}
 use Rattle.frp_form.specs.Lists.{items, many, over_at}
 use Rattle.frp_form.specs.Exprs.{whole_expr}
@@ -63,7 +63,7 @@ module _ (end : ℕ) where
       else items at_end (over_at end (o.Sender kind.Many)) sender 16
 
   -- a file, which ends with the tokens
-  unfoldable pub file_of : Reading → List Token → Outcome File
+  unfoldable pub file_of : Reading → List Token → FormOutcome File
   file_of how ts = do
     g ← graph ts
     listens ← many end after_listens listen g.1

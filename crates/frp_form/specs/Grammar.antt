@@ -41,7 +41,7 @@ use Rattle.frp_form.specs.Types.{atom_ty, unary_ty, binary_ty, raw_ty}
 use Rattle.frp_form.specs.Heads.{unary_form, binary_form, ternary_form, raw_at}
 use Rattle.frp_form.specs.ShapeHeads.{typed_shape, unary_shape, binary_shape, map_shape, join_shape, fold_shape}
 use Rattle.frp_form.specs.Shapes.{shape_at}
-use Rattle.frp_form.specs.Items.{item_at}
+use Rattle.frp_form.specs.Items.{placed_item}
 
 -- tokens at their places
 
@@ -158,23 +158,23 @@ pub data IsShape : RawShape → List Token → Type 0 where
 -- Tokens that are an item of any body.
 pub data IsCommonItem : Item → List Token → Type 0 where
   let_item : (a b c : ℕ) (x : Spot) (shape : RawShape) (ts : List Token) → IsUser x → IsShape shape ts
-      → IsCommonItem (item_at a (i.Let x shape)) (left_at a ∷ name_at b (codes "let") ∷ name_of x ∷ ts ++ right_at c ∷ [])
+      → IsCommonItem (placed_item a (i.Let x shape)) (left_at a ∷ name_at b (codes "let") ∷ name_of x ∷ ts ++ right_at c ∷ [])
   tie_item : (a b c : ℕ) (x y : Spot) → IsUser x → IsUser y
-      → IsCommonItem (item_at a (i.Tie x y)) (left_at a ∷ name_at b (codes "tie") ∷ name_of x ∷ name_of y ∷ right_at c ∷ [])
+      → IsCommonItem (placed_item a (i.Tie x y)) (left_at a ∷ name_at b (codes "tie") ∷ name_of x ∷ name_of y ∷ right_at c ∷ [])
 
 -- Tokens that are an item of the graph's body.
 pub data IsItem : Item → List Token → Type 0 where
   common : (x : Item) (ts : List Token) → IsCommonItem x ts → IsItem x ts
   sink_item : (a b c : ℕ) (x : Spot) (ty : RawTy) (ts : List Token) → IsUser x → IsType ty ts
-      → IsItem (item_at a (i.Sink x ty)) (left_at a ∷ name_at b (codes "sink") ∷ name_of x ∷ ts ++ right_at c ∷ [])
+      → IsItem (placed_item a (i.Sink x ty)) (left_at a ∷ name_at b (codes "sink") ∷ name_of x ∷ ts ++ right_at c ∷ [])
   cellsink_item : (a b c : ℕ) (x y : Spot) (ty : RawTy) (first : Raw) (ts es : List Token) → IsUser x → IsUser y → IsType ty ts → IsExpr first es
-      → IsItem (item_at a (i.Cellsink x y ty first)) (left_at a ∷ name_at b (codes "cellsink") ∷ name_of x ∷ name_of y ∷ ts ++ es ++ right_at c ∷ [])
+      → IsItem (placed_item a (i.Cellsink x y ty first)) (left_at a ∷ name_at b (codes "cellsink") ∷ name_of x ∷ name_of y ∷ ts ++ es ++ right_at c ∷ [])
 
 -- Tokens that are an item of a template's body.
 pub data IsBodyItem : Item → List Token → Type 0 where
   common_in_body : (x : Item) (ts : List Token) → IsCommonItem x ts → IsBodyItem x ts
   get_item : (a b c : ℕ) (x : Spot) (cell : Raw) (es : List Token) → IsUser x → IsExpr cell es
-      → IsBodyItem (item_at a (i.Get x cell)) (left_at a ∷ name_at b (codes "get") ∷ name_of x ∷ es ++ right_at c ∷ [])
+      → IsBodyItem (placed_item a (i.Get x cell)) (left_at a ∷ name_at b (codes "get") ∷ name_of x ∷ es ++ right_at c ∷ [])
 
 -- ---- declarations
 

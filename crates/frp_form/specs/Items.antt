@@ -21,8 +21,8 @@ body_head w =
     else None
 
 -- an item at its place
-abbrev pub item_at : ℕ → ItemForm → Item
-item_at at form = record { at = at; form = form }
+abbrev pub placed_item : ℕ → ItemForm → Item
+placed_item at form = record { at = at; form = form }
 
 module _ (end : ℕ) where
   -- the parts and the right parenthesis of an item that begins at this place
@@ -32,7 +32,7 @@ module _ (end : ℕ) where
     name ← spot end ts
     ty ← whole_ty end name.1
     after ← right end ty.1
-    Ok (item_at at (i.Sink name.0 ty.0), after)
+    Ok (placed_item at (i.Sink name.0 ty.0), after)
 
   unfoldable pub cellsink_at : ℕ → Parser Item
   cellsink_at at ts = do
@@ -41,28 +41,28 @@ module _ (end : ℕ) where
     ty ← whole_ty end cell.1
     first ← whole_expr end ty.1
     after ← right end first.1
-    Ok (item_at at (i.Cellsink sink.0 cell.0 ty.0 first.0), after)
+    Ok (placed_item at (i.Cellsink sink.0 cell.0 ty.0 first.0), after)
 
   unfoldable pub let_at : ℕ → Parser Item
   let_at at ts = do
     name ← spot end ts
     s ← shape end name.1
     after ← right end s.1
-    Ok (item_at at (i.Let name.0 s.0), after)
+    Ok (placed_item at (i.Let name.0 s.0), after)
 
   unfoldable pub tie_at : ℕ → Parser Item
   tie_at at ts = do
     from ← spot end ts
     to ← spot end from.1
     after ← right end to.1
-    Ok (item_at at (i.Tie from.0 to.0), after)
+    Ok (placed_item at (i.Tie from.0 to.0), after)
 
   unfoldable pub get_at : ℕ → Parser Item
   get_at at ts = do
     name ← spot end ts
     cell ← whole_expr end name.1
     after ← right end cell.1
-    Ok (item_at at (i.Get name.0 cell.0), after)
+    Ok (placed_item at (i.Get name.0 cell.0), after)
 
   abbrev pub item_parts : ℕ → ItemHead → Parser Item
   item_parts at h.Sink ts = sink_at at ts

@@ -11,8 +11,8 @@ use Rattle.frp_form.specs.declared.reading.Reading.{Reading}
 use Rattle.frp_form.specs.File.{file_of}
 
 -- lawful tokens are read as a file of lawful expressions
-abbrev pub ReadIsLawful : Type 0
-ReadIsLawful = (end : ℕ) (how : Reading) (ts : List Token) (f : File) → IsTrue (are_lawful (kinds ts)) → file_of end how ts ≡ Ok f → IsTrue (has_lawful_parts f)
+abbrev pub ReadHasLawfulParts : Type 0
+ReadHasLawfulParts = (end : ℕ) (how : Reading) (ts : List Token) (f : File) → IsTrue (are_lawful (kinds ts)) → file_of end how ts ≡ Ok f → IsTrue (has_lawful_parts f)
 
 -- each listen of a file that is read has four tokens of its own
 abbrev pub ListensAreFew : Type 0

@@ -5,14 +5,14 @@ use Rattle.frp_form.specs.declared.fault.FormFault.{FormFault}
 use Rattle.frp_form.specs.declared.fault.FormKind.TheVariants as kind
 use Rattle.frp_form.specs.declared.over.Over.{Over}
 use Rattle.frp_form.specs.declared.over.Over.TheVariants as o
-use Rattle.frp_form.specs.Gives.{Outcome, Parser, ◌>>=◌}
+use Rattle.frp_form.specs.Gives.{FormOutcome, Parser, ◌>>=◌}
 use Rattle.frp_form.specs.Tokens.{unexpected, opened, extra}
 
 -- `ends` finds what stands behind a list where it ends, `over` is the fault of a list that goes on past its limit, and `item`
 -- reads one of its items.
 module _ {A : Type 0} (ends : List Token → Option (List Token)) (over : List Token → FormFault) (item : Parser A) where
   -- a list that ends here has no more items
-  abbrev pub ended : Option (List Token) → Outcome (List A × List Token) → Outcome (List A × List Token)
+  abbrev pub ended : Option (List Token) → FormOutcome (List A × List Token) → FormOutcome (List A × List Token)
   ended (Some after) more = Ok ([], after)
   ended None more = more
 
@@ -25,7 +25,7 @@ module _ {A : Type 0} (ends : List Token → Option (List Token)) (over : List T
     Ok (x.0 ∷ xs.0, xs.1))
 
 -- items that were read, before what is read then
-abbrev pub behind : {A : Type 0} → List A → Outcome (List A × List Token) → Outcome (List A × List Token)
+abbrev pub behind : {A : Type 0} → List A → FormOutcome (List A × List Token) → FormOutcome (List A × List Token)
 behind before read = read >>= λ x. Ok (before ++ x.0, x.1)
 
 -- the fault of a list that goes on past its limit

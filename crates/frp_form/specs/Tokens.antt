@@ -9,12 +9,12 @@ use Rattle.frp_lex.specs.Spelling.{is_left, is_right}
 use Rattle.frp_form.specs.declared.fault.FormFault.{FormFault}
 use Rattle.frp_form.specs.declared.fault.FormKind.{FormKind}
 use Rattle.frp_form.specs.declared.fault.FormKind.TheVariants as kind
-use Rattle.frp_form.specs.Gives.{Outcome, Parser, ◌>>=◌, fault}
+use Rattle.frp_form.specs.Gives.{FormOutcome, Parser, ◌>>=◌, fault}
 
 -- whether a token is this name
-abbrev pub is_name : List ℕ → Kind → Bool
-is_name w (k.Name n) = bytes_eq n w
-is_name w _ = false
+abbrev pub is_named : List ℕ → Kind → Bool
+is_named w (k.Name n) = bytes_eq n w
+is_named w _ = false
 
 -- `true` and `false` are no names of the user
 abbrev pub is_literal : List ℕ → Bool
@@ -22,7 +22,7 @@ is_literal n = bytes_eq n (codes "true") || bytes_eq n (codes "false")
 
 -- whether a form of this head word stands at the front
 abbrev pub begins : List ℕ → List Token → Bool
-begins w (t ∷ u ∷ ts) = is_left t.kind && is_name w u.kind
+begins w (t ∷ u ∷ ts) = is_left t.kind && is_named w u.kind
 begins w _ = false
 
 module _ (end : ℕ) where
@@ -42,14 +42,14 @@ module _ (end : ℕ) where
   left (t ∷ ts) = if is_left t.kind then Ok (t.at, ts) else Err (unexpected (t ∷ ts))
 
   -- what stands behind a right parenthesis
-  unfoldable pub right : List Token → Outcome (List Token)
+  unfoldable pub right : List Token → FormOutcome (List Token)
   right [] = Err (unexpected [])
   right (t ∷ ts) = if is_right t.kind then Ok ts else Err (unexpected (t ∷ ts))
 
   -- what stands behind this name
-  unfoldable pub word : List ℕ → List Token → Outcome (List Token)
+  unfoldable pub word : List ℕ → List Token → FormOutcome (List Token)
   word w [] = Err (unexpected [])
-  word w (t ∷ ts) = if is_name w t.kind then Ok ts else Err (unexpected (t ∷ ts))
+  word w (t ∷ ts) = if is_named w t.kind then Ok ts else Err (unexpected (t ∷ ts))
 
   -- the place of a form of this head word, and what stands behind that
   unfoldable pub opened : List ℕ → Parser ℕ
@@ -59,7 +59,7 @@ module _ (end : ℕ) where
     Ok (at.0, rest)
 
   -- a name of the user
-  abbrev pub spot_by : Token → List Token → Kind → Outcome (Spot × List Token)
+  abbrev pub spot_by : Token → List Token → Kind → FormOutcome (Spot × List Token)
   spot_by t ts (k.Name n) = if is_literal n then Err (unexpected (t ∷ ts)) else Ok (record { at = t.at; text = n }, ts)
   spot_by t ts _ = Err (unexpected (t ∷ ts))
 
@@ -75,11 +75,11 @@ module _ (end : ℕ) where
     Ok ((x.0, y.0), y.1)
 
   -- what a head word means
-  abbrev pub head_is : {H : Type 0} → List Token → List Token → Option H → Outcome (H × List Token)
+  abbrev pub head_is : {H : Type 0} → List Token → List Token → Option H → FormOutcome (H × List Token)
   head_is ts rest (Some h) = Ok (h, rest)
   head_is ts rest None = Err (unexpected ts)
 
-  abbrev pub head_by : {H : Type 0} → (List ℕ → Option H) → Token → List Token → Kind → Outcome (H × List Token)
+  abbrev pub head_by : {H : Type 0} → (List ℕ → Option H) → Token → List Token → Kind → FormOutcome (H × List Token)
   head_by meaning t ts (k.Name n) = head_is (t ∷ ts) ts (meaning n)
   head_by meaning t ts _ = Err (unexpected (t ∷ ts))
 
@@ -94,6 +94,6 @@ after_right [] = None
 after_right (t ∷ ts) = if is_right t.kind then Some ts else None
 
 -- a form that is one too many is at fault at its place, what stands there in its place where it stands
-abbrev pub extra : FormKind → Outcome (ℕ × List Token) → FormFault
+abbrev pub extra : FormKind → FormOutcome (ℕ × List Token) → FormFault
 extra kind (Ok at) = fault at.0 kind
 extra kind (Err f) = f

@@ -15,7 +15,7 @@ use Rattle.frp_form.specs.declared.ty_word.UnaryTy.{UnaryTy}
 use Rattle.frp_form.specs.declared.ty_word.UnaryTy.TheVariants as u
 use Rattle.frp_form.specs.declared.ty_word.BinaryTy.{BinaryTy}
 use Rattle.frp_form.specs.declared.ty_word.BinaryTy.TheVariants as b
-use Rattle.frp_form.specs.Gives.{Outcome, Parser, ◌>>=◌}
+use Rattle.frp_form.specs.Gives.{FormOutcome, Parser, ◌>>=◌}
 use Rattle.frp_form.specs.Tokens.{unexpected, too_deep, right}
 
 -- the words of types
@@ -65,7 +65,7 @@ module _ (end : ℕ) (part : Parser RawTy) where
   ty_parts at ts _ rest = Err (unexpected end ts)
 
   -- what follows the left parenthesis at this place
-  abbrev pub ty_head : ℕ → Token → List Token → Kind → Outcome (RawTy × List Token)
+  abbrev pub ty_head : ℕ → Token → List Token → Kind → FormOutcome (RawTy × List Token)
   ty_head at t ts (k.Word word) = ty_parts at (t ∷ ts) (ty_word word) ts
   ty_head at t ts _ = Err (unexpected end (t ∷ ts))
 
@@ -73,11 +73,11 @@ module _ (end : ℕ) (part : Parser RawTy) where
   ty_form at [] = Err (unexpected end [])
   ty_form at (t ∷ ts) = ty_head at t ts t.kind
 
-  abbrev pub ty_atom : Token → List Token → Option TyWord → Outcome (RawTy × List Token)
+  abbrev pub ty_atom : Token → List Token → Option TyWord → FormOutcome (RawTy × List Token)
   ty_atom t ts (Some (w.Atom op)) = Ok (raw_ty t.at (atom_ty op), ts)
   ty_atom t ts _ = Err (unexpected end (t ∷ ts))
 
-  abbrev pub ty_by : Token → List Token → Kind → Outcome (RawTy × List Token)
+  abbrev pub ty_by : Token → List Token → Kind → FormOutcome (RawTy × List Token)
   ty_by t ts k.Left = ty_form t.at ts
   ty_by t ts (k.Word word) = ty_atom t ts (ty_word word)
   ty_by t ts _ = Err (unexpected end (t ∷ ts))

@@ -2,7 +2,7 @@
 
 ghost use Rattle.std.specs.Prelude.{◌≡◌};
 ghost use Rattle.std.specs.Option.{option_copied};
-ghost use Rattle.frp_form.specs.Gives.{Gives};
+ghost use Rattle.frp_form.specs.Gives.{FormGives};
 ghost use Rattle.frp_form.specs.Tokens.{head as head_at};
 ghost use Rattle.frp_form.specs.Decls.{decl_head as meaning};
 ghost use Rattle.frp_form.specs.Decls as spec;
@@ -67,7 +67,7 @@ fn before_give(tokens: &[Token]) -> Option<&[Token]>
 /// Names and their types in parentheses.
 #[tactic(auto, unfolding(crate::specs::Decls::params))]
 fn params(alloc: Global, end: u64, tokens: &[Token]) -> Result<(Seq<Param>, &[Token]), FormStop>
-    ensures { Gives (λ x. (x.0, x.1.now)) result (spec.params end tokens.now) }
+    ensures { FormGives (λ x. (x.0, x.1.now)) result (spec.params end tokens.now) }
 {
     let (_, rest) = left(end, tokens)?;
     many(alloc, end, rest)
@@ -76,7 +76,7 @@ fn params(alloc: Global, end: u64, tokens: &[Token]) -> Result<(Seq<Param>, &[To
 /// What a template gives.
 #[tactic(auto, unfolding(crate::specs::Decls::give))]
 fn give(alloc: Global, end: u64, tokens: &[Token]) -> Result<(Boxed<Give>, &[Token]), FormStop>
-    ensures { Gives (λ x. (x.0, x.1.now)) result (spec.give end tokens.now) }
+    ensures { FormGives (λ x. (x.0, x.1.now)) result (spec.give end tokens.now) }
 {
     let (at, rest) = opened(end, "give", tokens)?;
     let (e, rest) = whole_expr(alloc, end, rest)?;
@@ -93,7 +93,7 @@ fn template(
     at: u64,
     tokens: &[Token],
 ) -> Result<(Template, &[Token]), FormStop>
-    ensures { Gives (λ x. (x.0, x.1.now)) result (spec.template_at end at tokens.now) }
+    ensures { FormGives (λ x. (x.0, x.1.now)) result (spec.template_at end at tokens.now) }
 {
     let (name, rest) = spot(end, tokens)?;
     let (param, rest) = boxed_param(alloc, end, rest)?;
@@ -120,7 +120,7 @@ fn function(
     at: u64,
     tokens: &[Token],
 ) -> Result<(Function, &[Token]), FormStop>
-    ensures { Gives (λ x. (x.0, x.1.now)) result (spec.function_at end at tokens.now) }
+    ensures { FormGives (λ x. (x.0, x.1.now)) result (spec.function_at end at tokens.now) }
 {
     let (name, rest) = spot(end, tokens)?;
     let (kept, rest) = params(alloc, end, rest)?;
@@ -145,7 +145,7 @@ fn parts(
     head: DeclHead,
     tokens: &[Token],
 ) -> Result<(Decl, &[Token]), FormStop>
-    ensures { Gives (λ x. (x.0, x.1.now)) result (spec.decl_parts end at head tokens.now) }
+    ensures { FormGives (λ x. (x.0, x.1.now)) result (spec.decl_parts end at head tokens.now) }
 {
     match head {
         DeclHead::Template => {
@@ -166,7 +166,7 @@ fn parts(
 /// The head word at the front of a declaration, and the tokens behind it.
 #[tactic(auto, unfolding(crate::specs::Tokens::head))]
 fn head(end: u64, tokens: &[Token]) -> Result<(DeclHead, &[Token]), FormStop>
-    ensures { Gives (λ x. (x.0, x.1.now)) result (head_at end meaning tokens.now) }
+    ensures { FormGives (λ x. (x.0, x.1.now)) result (head_at end meaning tokens.now) }
 {
     match tokens {
         [first, rest @ ..] => match &first.kind {
@@ -183,7 +183,7 @@ fn head(end: u64, tokens: &[Token]) -> Result<(DeclHead, &[Token]), FormStop>
 /// A declaration.
 #[tactic(auto, unfolding(crate::specs::Decls::decl))]
 pub fn decl(alloc: Global, end: u64, tokens: &[Token]) -> Result<(Decl, &[Token]), FormStop>
-    ensures { Gives (λ x. (x.0, x.1.now)) result (spec.decl end tokens.now) }
+    ensures { FormGives (λ x. (x.0, x.1.now)) result (spec.decl end tokens.now) }
 {
     let (at, rest) = left(end, tokens)?;
     let (op, rest) = head(end, rest)?;

@@ -1,7 +1,7 @@
 //! Expressions.
 
 ghost use Rattle.std.specs.Prelude.{◌≡◌, List, ℕ, [], ◌∷◌, IfOk, Err};
-ghost use Rattle.frp_form.specs.Gives.{Gives};
+ghost use Rattle.frp_form.specs.Gives.{FormGives};
 ghost use Rattle.frp_form.specs.Tokens.{head as head_at};
 ghost use Rattle.frp_form.specs.Heads as forms;
 ghost use Rattle.frp_form.specs.Lists.{behind};
@@ -47,7 +47,7 @@ fn too_many<T>(end: u64, tokens: &[Token]) -> Result<T, FormStop>
 /// The head word at the front of a form, and the tokens behind it.
 #[tactic(auto, unfolding(crate::specs::Tokens::head))]
 fn head(end: u64, tokens: &[Token]) -> Result<(Head, &[Token]), FormStop>
-    ensures { Gives (λ x. (x.0, x.1.now)) result (head_at end forms.head_of tokens.now) }
+    ensures { FormGives (λ x. (x.0, x.1.now)) result (head_at end forms.head_of tokens.now) }
 {
     match tokens {
         [first, rest @ ..] => match &first.kind {
@@ -78,7 +78,7 @@ fn expr_list<'a>(
     limit: usize,
     tokens: &'a [Token],
 ) -> Result<(Seq<Raw>, &'a [Token]), FormStop>
-    ensures { Gives (λ x. (x.0, x.1.now)) result (behind found (spec.expr_list end (expr_at end room) limit tokens.now)) }
+    ensures { FormGives (λ x. (x.0, x.1.now)) result (behind found (spec.expr_list end (expr_at end room) limit tokens.now)) }
 {
     let mut all = found;
     let mut rest = tokens;
@@ -107,7 +107,7 @@ fn unary(
     op: Unary,
     tokens: &[Token],
 ) -> Result<(Boxed<Raw>, &[Token]), FormStop>
-    ensures { Gives (λ x. (x.0, x.1.now)) result (spec.unary_at end (expr_at end room) at op tokens.now) }
+    ensures { FormGives (λ x. (x.0, x.1.now)) result (spec.unary_at end (expr_at end room) at op tokens.now) }
 {
     let (x, rest) = expr(alloc, end, room, tokens)?;
     let rest = right(end, rest)?;
@@ -125,7 +125,7 @@ fn binary(
     op: Binary,
     tokens: &[Token],
 ) -> Result<(Boxed<Raw>, &[Token]), FormStop>
-    ensures { Gives (λ x. (x.0, x.1.now)) result (spec.binary_at end (expr_at end room) at op tokens.now) }
+    ensures { FormGives (λ x. (x.0, x.1.now)) result (spec.binary_at end (expr_at end room) at op tokens.now) }
 {
     let (x, rest) = expr(alloc, end, room, tokens)?;
     let (y, rest) = expr(alloc, end, room, rest)?;
@@ -144,7 +144,7 @@ fn ternary(
     op: Ternary,
     tokens: &[Token],
 ) -> Result<(Boxed<Raw>, &[Token]), FormStop>
-    ensures { Gives (λ x. (x.0, x.1.now)) result (spec.ternary_at end (expr_at end room) at op tokens.now) }
+    ensures { FormGives (λ x. (x.0, x.1.now)) result (spec.ternary_at end (expr_at end room) at op tokens.now) }
 {
     let (x, rest) = expr(alloc, end, room, tokens)?;
     let (y, rest) = expr(alloc, end, room, rest)?;
@@ -163,7 +163,7 @@ fn let_of(
     at: u64,
     tokens: &[Token],
 ) -> Result<(Boxed<Raw>, &[Token]), FormStop>
-    ensures { Gives (λ x. (x.0, x.1.now)) result (spec.let_at end (expr_at end room) at tokens.now) }
+    ensures { FormGives (λ x. (x.0, x.1.now)) result (spec.let_at end (expr_at end room) at tokens.now) }
 {
     let (name, rest) = spot(end, tokens)?;
     let (x, rest) = expr(alloc, end, room, rest)?;
@@ -191,7 +191,7 @@ fn list_of(
     at: u64,
     tokens: &[Token],
 ) -> Result<(Boxed<Raw>, &[Token]), FormStop>
-    ensures { Gives (λ x. (x.0, x.1.now)) result (spec.list_at end (expr_at end room) at tokens.now) }
+    ensures { FormGives (λ x. (x.0, x.1.now)) result (spec.list_at end (expr_at end room) at tokens.now) }
 {
     let (first, rest) = expr(alloc, end, room, tokens)?;
     let found = list_from(alloc, first)?;
@@ -208,7 +208,7 @@ fn nil_of(
     at: u64,
     tokens: &[Token],
 ) -> Result<(Boxed<Raw>, &[Token]), FormStop>
-    ensures { Gives (λ x. (x.0, x.1.now)) result (spec.nil_at end (expr_at end room) (ty_at end room) at tokens.now) }
+    ensures { FormGives (λ x. (x.0, x.1.now)) result (spec.nil_at end (expr_at end room) (ty_at end room) at tokens.now) }
 {
     let (item, rest) = ty(alloc, end, room, tokens)?;
     let rest = right(end, rest)?;
@@ -225,7 +225,7 @@ fn close_of(
     at: u64,
     tokens: &[Token],
 ) -> Result<(Boxed<Raw>, &[Token]), FormStop>
-    ensures { Gives (λ x. (x.0, x.1.now)) result (spec.close_at end (expr_at end room) at tokens.now) }
+    ensures { FormGives (λ x. (x.0, x.1.now)) result (spec.close_at end (expr_at end room) at tokens.now) }
 {
     let (name, rest) = spot(end, tokens)?;
     let (kept, rest) = expr_list(alloc, end, room, Seq::new(alloc), rest.len(), rest)?;
@@ -242,7 +242,7 @@ fn parts(
     head: Head,
     tokens: &[Token],
 ) -> Result<(Boxed<Raw>, &[Token]), FormStop>
-    ensures { Gives (λ x. (x.0, x.1.now)) result (spec.parts_at end (expr_at end room) (ty_at end room) at head tokens.now) }
+    ensures { FormGives (λ x. (x.0, x.1.now)) result (spec.parts_at end (expr_at end room) (ty_at end room) at head tokens.now) }
 {
     match head {
         Head::Unary(op) => unary(alloc, end, room, at, op, tokens),
@@ -265,7 +265,7 @@ fn form(
     at: u64,
     tokens: &[Token],
 ) -> Result<(Boxed<Raw>, &[Token]), FormStop>
-    ensures { Gives (λ x. (x.0, x.1.now)) result (spec.form_at end (expr_at end room) (ty_at end room) at tokens.now) }
+    ensures { FormGives (λ x. (x.0, x.1.now)) result (spec.form_at end (expr_at end room) (ty_at end room) at tokens.now) }
 {
     let (op, rest) = head(end, tokens)?;
     parts(alloc, end, room, at, op, rest)
@@ -280,7 +280,7 @@ fn expr(
     room: usize,
     tokens: &[Token],
 ) -> Result<(Boxed<Raw>, &[Token]), FormStop>
-    ensures { Gives (λ x. (x.0, x.1.now)) result (expr_at end room tokens.now) }
+    ensures { FormGives (λ x. (x.0, x.1.now)) result (expr_at end room tokens.now) }
 {
     if room == 0 {
         return too_deep(end, tokens);
@@ -307,7 +307,7 @@ pub fn whole_expr(
     end: u64,
     tokens: &[Token],
 ) -> Result<(Boxed<Raw>, &[Token]), FormStop>
-    ensures { Gives (λ x. (x.0, x.1.now)) result (spec.whole_expr end tokens.now) }
+    ensures { FormGives (λ x. (x.0, x.1.now)) result (spec.whole_expr end tokens.now) }
 {
     expr(alloc, end, LEVELS, tokens)
 }
@@ -319,7 +319,7 @@ pub fn kept_exprs(
     end: u64,
     tokens: &[Token],
 ) -> Result<(Seq<Raw>, &[Token]), FormStop>
-    ensures { Gives (λ x. (x.0, x.1.now)) result (spec.kept_exprs end tokens.now) }
+    ensures { FormGives (λ x. (x.0, x.1.now)) result (spec.kept_exprs end tokens.now) }
 {
     expr_list(alloc, end, LEVELS, Seq::new(alloc), tokens.len(), tokens)
 }

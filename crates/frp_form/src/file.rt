@@ -2,7 +2,7 @@
 
 ghost use Rattle.std.specs.Prelude.{◌≡◌};
 ghost use Rattle.std.specs.Option.{option_copied};
-ghost use Rattle.frp_form.specs.Gives.{Gives};
+ghost use Rattle.frp_form.specs.Gives.{FormGives};
 ghost use Rattle.frp_form.specs.File as spec;
 
 use crate::decls::decl;
@@ -107,7 +107,7 @@ fn at_end(tokens: &[Token]) -> Option<&[Token]>
 /// The graph.
 #[tactic(auto, unfolding(crate::specs::File::graph))]
 fn graph(alloc: Global, end: u64, tokens: &[Token]) -> Result<(Graph, &[Token]), FormStop>
-    ensures { Gives (λ x. (x.0, x.1.now)) result (spec.graph end tokens.now) }
+    ensures { FormGives (λ x. (x.0, x.1.now)) result (spec.graph end tokens.now) }
 {
     let (at, rest) = opened(end, "graph", tokens)?;
     let (decls, rest) = many(alloc, end, rest)?;
@@ -117,7 +117,7 @@ fn graph(alloc: Global, end: u64, tokens: &[Token]) -> Result<(Graph, &[Token]),
 /// A listen.
 #[tactic(auto, unfolding(crate::specs::File::listen))]
 fn listen(end: u64, tokens: &[Token]) -> Result<(Listen, &[Token]), FormStop>
-    ensures { Gives (λ x. (x.0, x.1.now)) result (spec.listen end tokens.now) }
+    ensures { FormGives (λ x. (x.0, x.1.now)) result (spec.listen end tokens.now) }
 {
     let (at, rest) = opened(end, "listen", tokens)?;
     let (name, rest) = spot(end, rest)?;
@@ -128,7 +128,7 @@ fn listen(end: u64, tokens: &[Token]) -> Result<(Listen, &[Token]), FormStop>
 /// A send.
 #[tactic(auto, unfolding(crate::specs::File::send))]
 fn send(alloc: Global, end: u64, tokens: &[Token]) -> Result<(RawSend, &[Token]), FormStop>
-    ensures { Gives (λ x. (x.0, x.1.now)) result (spec.send end tokens.now) }
+    ensures { FormGives (λ x. (x.0, x.1.now)) result (spec.send end tokens.now) }
 {
     let (at, rest) = opened(end, "send", tokens)?;
     let (name, rest) = spot(end, rest)?;
@@ -144,7 +144,7 @@ const SENDS: usize = 4096;
 /// The sends of a sender and a right parenthesis.
 #[tactic(auto, unfolding(crate::specs::File::sends))]
 fn sends(alloc: Global, end: u64, tokens: &[Token]) -> Result<(Seq<RawSend>, &[Token]), FormStop>
-    ensures { Gives (λ x. (x.0, x.1.now)) result (spec.sends end tokens.now) }
+    ensures { FormGives (λ x. (x.0, x.1.now)) result (spec.sends end tokens.now) }
 {
     items(alloc, end, SENDS, Over::Send, tokens)
 }
@@ -152,7 +152,7 @@ fn sends(alloc: Global, end: u64, tokens: &[Token]) -> Result<(Seq<RawSend>, &[T
 /// A sender.
 #[tactic(auto, unfolding(crate::specs::File::sender))]
 fn sender(alloc: Global, end: u64, tokens: &[Token]) -> Result<(Sender, &[Token]), FormStop>
-    ensures { Gives (λ x. (x.0, x.1.now)) result (spec.sender end tokens.now) }
+    ensures { FormGives (λ x. (x.0, x.1.now)) result (spec.sender end tokens.now) }
 {
     let (at, rest) = opened(end, "sender", tokens)?;
     let (sends, rest) = sends(alloc, end, rest)?;
@@ -170,7 +170,7 @@ fn senders(
     how: Reading,
     tokens: &[Token],
 ) -> Result<(Seq<Sender>, &[Token]), FormStop>
-    ensures { Gives (λ x. (x.0, x.1.now)) result (spec.senders end how tokens.now) }
+    ensures { FormGives (λ x. (x.0, x.1.now)) result (spec.senders end how tokens.now) }
 {
     if how.one_sender {
         items(alloc, end, 1, Over::Sender(FormKind::Senders), tokens)
@@ -184,7 +184,7 @@ fn senders(
 /// level of a type or an expression.
 #[tactic(auto, unfolding(crate::specs::File::file_of))]
 pub fn read(alloc: Global, tokens: &[Token], length: u64, how: Reading) -> Result<File, FormStop>
-    ensures { Gives (λ x. x) result (spec.file_of length how tokens.now) }
+    ensures { FormGives (λ x. x) result (spec.file_of length how tokens.now) }
 {
     let (graph, rest) = graph(alloc, length, tokens)?;
     let (listens, rest) = many(alloc, length, rest)?;

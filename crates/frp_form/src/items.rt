@@ -1,7 +1,7 @@
 //! Items of bodies.
 
 ghost use Rattle.std.specs.Prelude.{◌≡◌};
-ghost use Rattle.frp_form.specs.Gives.{Gives};
+ghost use Rattle.frp_form.specs.Gives.{FormGives};
 ghost use Rattle.frp_form.specs.Tokens.{head as head_at};
 ghost use Rattle.frp_form.specs.Items.{body_head as meaning};
 ghost use Rattle.frp_form.specs.Items as spec;
@@ -19,7 +19,7 @@ use std::alloc::Global;
 /// The name and the type of `sink`.
 #[tactic(auto, unfolding(crate::specs::Items::sink_at))]
 fn sink(alloc: Global, end: u64, at: u64, tokens: &[Token]) -> Result<(Item, &[Token]), FormStop>
-    ensures { Gives (λ x. (x.0, x.1.now)) result (spec.sink_at end at tokens.now) }
+    ensures { FormGives (λ x. (x.0, x.1.now)) result (spec.sink_at end at tokens.now) }
 {
     let (name, rest) = spot(end, tokens)?;
     let (ty, rest) = whole_ty(alloc, end, rest)?;
@@ -36,7 +36,7 @@ fn cellsink(
     at: u64,
     tokens: &[Token],
 ) -> Result<(Item, &[Token]), FormStop>
-    ensures { Gives (λ x. (x.0, x.1.now)) result (spec.cellsink_at end at tokens.now) }
+    ensures { FormGives (λ x. (x.0, x.1.now)) result (spec.cellsink_at end at tokens.now) }
 {
     let (sink, rest) = spot(end, tokens)?;
     let (cell, rest) = spot(end, rest)?;
@@ -60,7 +60,7 @@ fn let_item(
     at: u64,
     tokens: &[Token],
 ) -> Result<(Item, &[Token]), FormStop>
-    ensures { Gives (λ x. (x.0, x.1.now)) result (spec.let_at end at tokens.now) }
+    ensures { FormGives (λ x. (x.0, x.1.now)) result (spec.let_at end at tokens.now) }
 {
     let (name, rest) = spot(end, tokens)?;
     let (shape, rest) = shape(alloc, end, rest)?;
@@ -72,7 +72,7 @@ fn let_item(
 /// The names of `tie`.
 #[tactic(auto, unfolding(crate::specs::Items::tie_at))]
 fn tie(alloc: Global, end: u64, at: u64, tokens: &[Token]) -> Result<(Item, &[Token]), FormStop>
-    ensures { Gives (λ x. (x.0, x.1.now)) result (spec.tie_at end at tokens.now) }
+    ensures { FormGives (λ x. (x.0, x.1.now)) result (spec.tie_at end at tokens.now) }
 {
     let (from, rest) = spot(end, tokens)?;
     let (to, rest) = spot(end, rest)?;
@@ -84,7 +84,7 @@ fn tie(alloc: Global, end: u64, at: u64, tokens: &[Token]) -> Result<(Item, &[To
 /// The name and the cell of `get`.
 #[tactic(auto, unfolding(crate::specs::Items::get_at))]
 fn get(alloc: Global, end: u64, at: u64, tokens: &[Token]) -> Result<(Item, &[Token]), FormStop>
-    ensures { Gives (λ x. (x.0, x.1.now)) result (spec.get_at end at tokens.now) }
+    ensures { FormGives (λ x. (x.0, x.1.now)) result (spec.get_at end at tokens.now) }
 {
     let (name, rest) = spot(end, tokens)?;
     let (cell, rest) = whole_expr(alloc, end, rest)?;
@@ -101,7 +101,7 @@ pub fn item_parts(
     head: ItemHead,
     tokens: &[Token],
 ) -> Result<(Item, &[Token]), FormStop>
-    ensures { Gives (λ x. (x.0, x.1.now)) result (spec.item_parts end at head tokens.now) }
+    ensures { FormGives (λ x. (x.0, x.1.now)) result (spec.item_parts end at head tokens.now) }
 {
     match head {
         ItemHead::Sink => sink(alloc, end, at, tokens),
@@ -115,7 +115,7 @@ pub fn item_parts(
 /// The head word at the front of an item of a template, and the tokens behind it.
 #[tactic(auto, unfolding(crate::specs::Tokens::head))]
 fn head(end: u64, tokens: &[Token]) -> Result<(ItemHead, &[Token]), FormStop>
-    ensures { Gives (λ x. (x.0, x.1.now)) result (head_at end meaning tokens.now) }
+    ensures { FormGives (λ x. (x.0, x.1.now)) result (head_at end meaning tokens.now) }
 {
     match tokens {
         [first, rest @ ..] => match &first.kind {
@@ -132,7 +132,7 @@ fn head(end: u64, tokens: &[Token]) -> Result<(ItemHead, &[Token]), FormStop>
 /// An item of the body of a template.
 #[tactic(auto, unfolding(crate::specs::Items::body_item))]
 pub fn body_item(alloc: Global, end: u64, tokens: &[Token]) -> Result<(Item, &[Token]), FormStop>
-    ensures { Gives (λ x. (x.0, x.1.now)) result (spec.body_item end tokens.now) }
+    ensures { FormGives (λ x. (x.0, x.1.now)) result (spec.body_item end tokens.now) }
 {
     let (at, rest) = left(end, tokens)?;
     let (op, rest) = head(end, rest)?;

@@ -3,7 +3,7 @@
 ghost use Rattle.std.specs.Prelude.{◌≡◌, List, ℕ, Option};
 ghost use Rattle.std.specs.Option.{option_copied};
 ghost use Rattle.frp_lex.specs.declared.token.Token.{Token};
-ghost use Rattle.frp_form.specs.Gives.{Gives, Parser};
+ghost use Rattle.frp_form.specs.Gives.{FormGives, Parser};
 ghost use Rattle.frp_form.specs.Lists as spec;
 
 use crate::fault::{FormFault, FormKind, FormStop};
@@ -26,7 +26,7 @@ pub trait Rule: Drop {
 
     /// One item.
     fn item(alloc: Global, end: u64, tokens: &[Token]) -> Result<(Self, &[Token]), FormStop>
-        ensures { Gives (λ x. (x.0, x.1.now)) result (reading end tokens.now) };
+        ensures { FormGives (λ x. (x.0, x.1.now)) result (reading end tokens.now) };
 }
 
 /// The fault of a list that goes on past its limit.
@@ -48,7 +48,7 @@ pub fn items<T: Rule>(
     past: Over,
     tokens: &[Token],
 ) -> Result<(Seq<T>, &[Token]), FormStop>
-    ensures { Gives (λ x. (x.0, x.1.now)) result (spec.items T.ending (spec.over_at end past) (T.reading end) limit tokens.now) }
+    ensures { FormGives (λ x. (x.0, x.1.now)) result (spec.items T.ending (spec.over_at end past) (T.reading end) limit tokens.now) }
 {
     let mut all = Seq::new(alloc);
     let mut rest = tokens;
@@ -73,7 +73,7 @@ pub fn many<T: Rule>(
     end: u64,
     tokens: &[Token],
 ) -> Result<(Seq<T>, &[Token]), FormStop>
-    ensures { Gives (λ x. (x.0, x.1.now)) result (spec.many end T.ending (T.reading end) tokens.now) }
+    ensures { FormGives (λ x. (x.0, x.1.now)) result (spec.many end T.ending (T.reading end) tokens.now) }
 {
     items(alloc, end, tokens.len(), Over::End, tokens)
 }

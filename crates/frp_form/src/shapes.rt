@@ -1,7 +1,7 @@
 //! Shapes.
 
 ghost use Rattle.std.specs.Prelude.{◌≡◌, IfOk};
-ghost use Rattle.frp_form.specs.Gives.{Gives};
+ghost use Rattle.frp_form.specs.Gives.{FormGives};
 ghost use Rattle.frp_form.specs.Tokens.{head as head_at};
 ghost use Rattle.frp_form.specs.ShapeHeads.{shape_head as meaning};
 ghost use Rattle.frp_form.specs.Shapes as spec;
@@ -23,7 +23,7 @@ use std::alloc::Global;
 /// A name and its type.
 #[tactic(auto, unfolding(crate::specs::Shapes::param))]
 pub fn param(alloc: Global, end: u64, tokens: &[Token]) -> Result<(Param, &[Token]), FormStop>
-    ensures { Gives (λ x. (x.0, x.1.now)) result (spec.param end tokens.now) }
+    ensures { FormGives (λ x. (x.0, x.1.now)) result (spec.param end tokens.now) }
 {
     let (at, rest) = left(end, tokens)?;
     let (name, rest) = spot(end, rest)?;
@@ -39,7 +39,7 @@ pub fn boxed_param(
     end: u64,
     tokens: &[Token],
 ) -> Result<(Boxed<Param>, &[Token]), FormStop>
-    ensures { Gives (λ x. (x.0, x.1.now)) result (spec.param end tokens.now) }
+    ensures { FormGives (λ x. (x.0, x.1.now)) result (spec.param end tokens.now) }
 {
     let (p, rest) = param(alloc, end, tokens)?;
     Ok((Boxed::new(alloc, p)?, rest))
@@ -61,7 +61,7 @@ fn typed(
     op: TyShape,
     tokens: &[Token],
 ) -> Result<(Boxed<RawShape>, &[Token]), FormStop>
-    ensures { Gives (λ x. (x.0, x.1.now)) result (spec.typed_at end at op tokens.now) }
+    ensures { FormGives (λ x. (x.0, x.1.now)) result (spec.typed_at end at op tokens.now) }
 {
     let (ty, rest) = whole_ty(alloc, end, tokens)?;
     let rest = right(end, rest)?;
@@ -78,7 +78,7 @@ fn unary(
     op: UnaryShape,
     tokens: &[Token],
 ) -> Result<(Boxed<RawShape>, &[Token]), FormStop>
-    ensures { Gives (λ x. (x.0, x.1.now)) result (spec.unary_at end at op tokens.now) }
+    ensures { FormGives (λ x. (x.0, x.1.now)) result (spec.unary_at end at op tokens.now) }
 {
     let (a, rest) = whole_expr(alloc, end, tokens)?;
     let rest = right(end, rest)?;
@@ -95,7 +95,7 @@ fn binary(
     op: BinaryShape,
     tokens: &[Token],
 ) -> Result<(Boxed<RawShape>, &[Token]), FormStop>
-    ensures { Gives (λ x. (x.0, x.1.now)) result (spec.binary_at end at op tokens.now) }
+    ensures { FormGives (λ x. (x.0, x.1.now)) result (spec.binary_at end at op tokens.now) }
 {
     let (a, rest) = whole_expr(alloc, end, tokens)?;
     let (b, rest) = whole_expr(alloc, end, rest)?;
@@ -113,7 +113,7 @@ fn mapping(
     op: MapShape,
     tokens: &[Token],
 ) -> Result<(Boxed<RawShape>, &[Token]), FormStop>
-    ensures { Gives (λ x. (x.0, x.1.now)) result (spec.map_at end at op tokens.now) }
+    ensures { FormGives (λ x. (x.0, x.1.now)) result (spec.map_at end at op tokens.now) }
 {
     let (x, rest) = spot(end, tokens)?;
     let (a, rest) = whole_expr(alloc, end, rest)?;
@@ -130,7 +130,7 @@ fn three_exprs(
     end: u64,
     tokens: &[Token],
 ) -> Result<((Boxed<Raw>, Boxed<Raw>, Boxed<Raw>), &[Token]), FormStop>
-    ensures { Gives (λ x. (x.0, x.1.now)) result (spec.three_exprs end tokens.now) }
+    ensures { FormGives (λ x. (x.0, x.1.now)) result (spec.three_exprs end tokens.now) }
 {
     let (a, rest) = whole_expr(alloc, end, tokens)?;
     let (b, rest) = whole_expr(alloc, end, rest)?;
@@ -147,7 +147,7 @@ fn joining(
     op: JoinShape,
     tokens: &[Token],
 ) -> Result<(Boxed<RawShape>, &[Token]), FormStop>
-    ensures { Gives (λ x. (x.0, x.1.now)) result (spec.join_at end at op tokens.now) }
+    ensures { FormGives (λ x. (x.0, x.1.now)) result (spec.join_at end at op tokens.now) }
 {
     let ((x, y), rest) = two_names(end, tokens)?;
     let ((a, b, e), rest) = three_exprs(alloc, end, rest)?;
@@ -165,7 +165,7 @@ fn folding(
     op: FoldShape,
     tokens: &[Token],
 ) -> Result<(Boxed<RawShape>, &[Token]), FormStop>
-    ensures { Gives (λ x. (x.0, x.1.now)) result (spec.fold_at end at op tokens.now) }
+    ensures { FormGives (λ x. (x.0, x.1.now)) result (spec.fold_at end at op tokens.now) }
 {
     let (ty, rest) = whole_ty(alloc, end, tokens)?;
     let ((x, y), rest) = two_names(end, rest)?;
@@ -183,7 +183,7 @@ fn lift(
     at: u64,
     tokens: &[Token],
 ) -> Result<(Boxed<RawShape>, &[Token]), FormStop>
-    ensures { Gives (λ x. (x.0, x.1.now)) result (spec.lift_at end at tokens.now) }
+    ensures { FormGives (λ x. (x.0, x.1.now)) result (spec.lift_at end at tokens.now) }
 {
     let (x, rest) = boxed_param(alloc, end, tokens)?;
     let (y, rest) = boxed_param(alloc, end, rest)?;
@@ -201,7 +201,7 @@ fn execute(
     at: u64,
     tokens: &[Token],
 ) -> Result<(Boxed<RawShape>, &[Token]), FormStop>
-    ensures { Gives (λ x. (x.0, x.1.now)) result (spec.execute_at end at tokens.now) }
+    ensures { FormGives (λ x. (x.0, x.1.now)) result (spec.execute_at end at tokens.now) }
 {
     let (s, rest) = whole_expr(alloc, end, tokens)?;
     let (template, rest) = spot(end, rest)?;
@@ -218,7 +218,7 @@ fn parts(
     head: ShapeHead,
     tokens: &[Token],
 ) -> Result<(Boxed<RawShape>, &[Token]), FormStop>
-    ensures { Gives (λ x. (x.0, x.1.now)) result (spec.shape_parts end at head tokens.now) }
+    ensures { FormGives (λ x. (x.0, x.1.now)) result (spec.shape_parts end at head tokens.now) }
 {
     match head {
         ShapeHead::Typed(op) => typed(alloc, end, at, op, tokens),
@@ -235,7 +235,7 @@ fn parts(
 /// The head word at the front of a shape, and the tokens behind it.
 #[tactic(auto, unfolding(crate::specs::Tokens::head))]
 fn head(end: u64, tokens: &[Token]) -> Result<(ShapeHead, &[Token]), FormStop>
-    ensures { Gives (λ x. (x.0, x.1.now)) result (head_at end meaning tokens.now) }
+    ensures { FormGives (λ x. (x.0, x.1.now)) result (head_at end meaning tokens.now) }
 {
     match tokens {
         [first, rest @ ..] => match &first.kind {
@@ -256,7 +256,7 @@ pub fn shape(
     end: u64,
     tokens: &[Token],
 ) -> Result<(Boxed<RawShape>, &[Token]), FormStop>
-    ensures { Gives (λ x. (x.0, x.1.now)) result (spec.shape end tokens.now) }
+    ensures { FormGives (λ x. (x.0, x.1.now)) result (spec.shape end tokens.now) }
 {
     let (at, rest) = left(end, tokens)?;
     let (op, rest) = head(end, rest)?;

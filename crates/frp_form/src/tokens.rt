@@ -2,7 +2,7 @@
 
 ghost use Rattle.std.specs.Prelude.{◌≡◌, Err};
 ghost use Rattle.std.specs.Option.{option_copied};
-ghost use Rattle.frp_form.specs.Gives.{Gives};
+ghost use Rattle.frp_form.specs.Gives.{FormGives};
 ghost use Rattle.frp_form.specs.Tokens as spec;
 
 use crate::fault::{FormFault, FormKind, FormStop};
@@ -54,7 +54,7 @@ pub fn too_deep<T>(end: u64, tokens: &[Token]) -> Result<T, FormStop>
 
 /// Whether a token is this name.
 fn is_name(word: &str, kind: &Kind) -> bool
-    ensures { result ≡ spec.is_name word.now kind.now }
+    ensures { result ≡ spec.is_named word.now kind.now }
 {
     match kind {
         Kind::Name(name) => name.as_str() == word,
@@ -82,7 +82,7 @@ pub fn begins(word: &str, tokens: &[Token]) -> bool
 /// The place of a left parenthesis, and what stands behind it.
 #[tactic(auto, unfolding(crate::specs::Tokens::left))]
 pub fn left(end: u64, tokens: &[Token]) -> Result<(u64, &[Token]), FormStop>
-    ensures { Gives (λ x. (x.0, x.1.now)) result (spec.left end tokens.now) }
+    ensures { FormGives (λ x. (x.0, x.1.now)) result (spec.left end tokens.now) }
 {
     match tokens {
         [first, rest @ ..] => match &first.kind {
@@ -96,7 +96,7 @@ pub fn left(end: u64, tokens: &[Token]) -> Result<(u64, &[Token]), FormStop>
 /// What stands behind a right parenthesis.
 #[tactic(auto, unfolding(crate::specs::Tokens::right))]
 pub fn right(end: u64, tokens: &[Token]) -> Result<&[Token], FormStop>
-    ensures { Gives (λ x. x.now) result (spec.right end tokens.now) }
+    ensures { FormGives (λ x. x.now) result (spec.right end tokens.now) }
 {
     match tokens {
         [first, rest @ ..] => match &first.kind {
@@ -123,7 +123,7 @@ pub fn after_right(tokens: &[Token]) -> Option<&[Token]>
 /// What stands behind this name.
 #[tactic(auto, unfolding(crate::specs::Tokens::word))]
 fn word<'a>(end: u64, word: &str, tokens: &'a [Token]) -> Result<&'a [Token], FormStop>
-    ensures { Gives (λ x. x.now) result (spec.word end word.now tokens.now) }
+    ensures { FormGives (λ x. x.now) result (spec.word end word.now tokens.now) }
 {
     match tokens {
         [first, rest @ ..] => {
@@ -140,7 +140,7 @@ fn word<'a>(end: u64, word: &str, tokens: &'a [Token]) -> Result<&'a [Token], Fo
 /// The place of a form of this head word, and what stands behind that.
 #[tactic(auto, unfolding(crate::specs::Tokens::opened))]
 pub fn opened<'a>(end: u64, head: &str, tokens: &'a [Token]) -> Result<(u64, &'a [Token]), FormStop>
-    ensures { Gives (λ x. (x.0, x.1.now)) result (spec.opened end head.now tokens.now) }
+    ensures { FormGives (λ x. (x.0, x.1.now)) result (spec.opened end head.now tokens.now) }
 {
     let (at, rest) = left(end, tokens)?;
     let rest = word(end, head, rest)?;
@@ -175,7 +175,7 @@ pub fn extra(end: u64, kind: FormKind, head: &str, tokens: &[Token]) -> FormFaul
 /// A name of the user, with its place.
 #[tactic(auto, unfolding(crate::specs::Tokens::spot))]
 pub fn spot(end: u64, tokens: &[Token]) -> Result<(Spot, &[Token]), FormStop>
-    ensures { Gives (λ x. (x.0, x.1.now)) result (spec.spot end tokens.now) }
+    ensures { FormGives (λ x. (x.0, x.1.now)) result (spec.spot end tokens.now) }
 {
     match tokens {
         [first, rest @ ..] => match &first.kind {
@@ -195,7 +195,7 @@ pub fn spot(end: u64, tokens: &[Token]) -> Result<(Spot, &[Token]), FormStop>
 /// Two names of the user.
 #[tactic(auto, unfolding(crate::specs::Tokens::two_names))]
 pub fn two_names(end: u64, tokens: &[Token]) -> Result<((Spot, Spot), &[Token]), FormStop>
-    ensures { Gives (λ x. (x.0, x.1.now)) result (spec.two_names end tokens.now) }
+    ensures { FormGives (λ x. (x.0, x.1.now)) result (spec.two_names end tokens.now) }
 {
     let (x, rest) = spot(end, tokens)?;
     let (y, rest) = spot(end, rest)?;

@@ -1,7 +1,7 @@
 //! Types.
 
 ghost use Rattle.std.specs.Prelude.{◌≡◌, List, ℕ, IfOk};
-ghost use Rattle.frp_form.specs.Gives.{Gives};
+ghost use Rattle.frp_form.specs.Gives.{FormGives};
 ghost use Rattle.frp_form.specs.Types as spec;
 
 use crate::fault::FormStop;
@@ -31,7 +31,7 @@ fn ty_parts<'a>(
     word: Option<TyWord>,
     rest: &'a [Token],
 ) -> Result<(Boxed<RawTy>, &'a [Token]), FormStop>
-    ensures { Gives (λ x. (x.0, x.1.now)) result (spec.ty_parts end (spec.ty_at end room) at tokens.now word rest.now) }
+    ensures { FormGives (λ x. (x.0, x.1.now)) result (spec.ty_parts end (spec.ty_at end room) at tokens.now word rest.now) }
 {
     match word {
         Some(TyWord::Unary(op)) => {
@@ -59,7 +59,7 @@ fn ty_form(
     at: u64,
     tokens: &[Token],
 ) -> Result<(Boxed<RawTy>, &[Token]), FormStop>
-    ensures { Gives (λ x. (x.0, x.1.now)) result (spec.ty_form end (spec.ty_at end room) at tokens.now) }
+    ensures { FormGives (λ x. (x.0, x.1.now)) result (spec.ty_form end (spec.ty_at end room) at tokens.now) }
 {
     match tokens {
         [head, rest @ ..] => match &head.kind {
@@ -82,7 +82,7 @@ pub fn ty(
     room: usize,
     tokens: &[Token],
 ) -> Result<(Boxed<RawTy>, &[Token]), FormStop>
-    ensures { Gives (λ x. (x.0, x.1.now)) result (spec.ty_at end room tokens.now) }
+    ensures { FormGives (λ x. (x.0, x.1.now)) result (spec.ty_at end room tokens.now) }
 {
     if room == 0 {
         return too_deep(end, tokens);
@@ -110,7 +110,7 @@ pub fn whole_ty(
     end: u64,
     tokens: &[Token],
 ) -> Result<(Boxed<RawTy>, &[Token]), FormStop>
-    ensures { Gives (λ x. (x.0, x.1.now)) result (spec.whole_ty end tokens.now) }
+    ensures { FormGives (λ x. (x.0, x.1.now)) result (spec.whole_ty end tokens.now) }
 {
     ty(alloc, end, LEVELS, tokens)
 }

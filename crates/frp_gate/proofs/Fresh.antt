@@ -8,7 +8,7 @@ use native.Mathlib.Decide.{ℕ_discrete}
 use Rattle.frp_gate.specs.declared.entry.Entry.{Entry}
 use Rattle.frp_gate.specs.declared.pass.Pass.{Pass}
 use Rattle.frp_gate.specs.declared.view.Start.{Start}
-use Rattle.frp_gate.specs.Views.{SeatState, rest_of, first_of}
+use Rattle.frp_gate.specs.Views.{SeatState, other_passes, first_pass}
 use Rattle.frp_gate.specs.Calls.{Began, IsResting, first_state, seen_of, mine_of}
 use Rattle.frp_gate.specs.Passes.{number, AreNumbered, IsFirst}
 use Rattle.frp_gate.specs.Seats.{IsFresh}
@@ -24,7 +24,7 @@ module _ {M : Type 0} where
 
 module _ {M C R : Type 0} (history : M → List (Entry C R)) (start : Start M) where
   -- the first number of a block is split off
-  pub first_rests : (n size : ℕ) (m : SeatState M) → m ≡ (first_of (first_state history start n size).0, [])
+  pub first_rests : (n size : ℕ) (m : SeatState M) → m ≡ (first_pass (first_state history start n size).0, [])
       → IsResting n m
   first_rests n size m is = subst (IsResting n) (sym is) (refl, ((refl, refl, refl), refl, refl, refl))
 
@@ -33,7 +33,7 @@ module _ {M C R : Type 0} (history : M → List (Entry C R)) (start : Start M) w
 
   pub rest_next : (n callers : ℕ)
       → (
-        rest_of (first_state history start n (callers - n)).0,
+        other_passes (first_state history start n (callers - n)).0,
         (first_state history start n (callers - n)).1,
       ) ≡ first_state history start (n + 1) (callers - (n + 1))
   rest_next n callers = let next : suc n ≡ n + 1 = omega arith in

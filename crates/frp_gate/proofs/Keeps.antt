@@ -16,7 +16,7 @@ use Rattle.frp_gate.proofs.OwnEntries.{entries_other, called_more, called_first}
 use Rattle.frp_gate.specs.Entries.{AreCalledBelow, entries_of}
 use Rattle.frp_gate.specs.Rule.{AtHome, Fits, IsOut, Kept, NoneAway, PassFits, Slot}
 use Rattle.frp_gate.specs.Steps.{Draws, Goes, Looks, PassesOn, Publishes, PutsBack, Reads, Takes}
-use Rattle.frp_gate.specs.Views.{InBlock, IsIdle, SeatState, as_joined, members, at_turn, both_of, first_of, fresh_view, holding, joined, less_first, one_if, only_first, parts, passed_on, published, put_down, rest_of, seeing, tickets, total, waiting}
+use Rattle.frp_gate.specs.Views.{InBlock, IsIdle, SeatState, as_joined, members, at_turn, both_of, first_pass, fresh_view, holding, joined, less_first, one_if, only_first, parts, passed_on, published, put_down, other_passes, seeing, tickets, total, waiting}
 
 abbrev pub put : (ℕ → ℕ) → ℕ → ℕ → ℕ → ℕ
 put f k x j = if j == k then x else f j
@@ -594,7 +594,7 @@ module _ {M C R F : Type 0} (history : M → List (Entry C R)) (fixed : M → F)
         )
 
     pub splits : (id : ℕ) (d : PassView M) → IsIdle d → 1 ≤ d.block → d.kept ≡ []
-        → Splits Rule id (Some d) (rest_of (Some d)) (first_of (Some d))
+        → Splits Rule id (Some d) (other_passes (Some d)) (first_pass (Some d))
     splits id d idle some_left alone s r at =
         let mine = r.each id (Some d) at in
         let w = less_first d in

@@ -9,7 +9,7 @@ use Rattle.frp_gate.proofs.Keeps.{draws, looks, splits, reads, takes_it, publish
 use Rattle.frp_gate.specs.Entries.{entries_of}
 use Rattle.frp_gate.specs.Rule.{Kept}
 use Rattle.frp_gate.specs.Steps.{Draws, Goes, Looks, PassesOn, Publishes, PutsBack, Reads, Takes}
-use Rattle.frp_gate.specs.Views.{IsIdle, SeatState, at_turn, first_of, holding, passed_on, published, put_down, rest_of, seeing, waiting}
+use Rattle.frp_gate.specs.Views.{IsIdle, SeatState, at_turn, first_pass, holding, passed_on, published, put_down, other_passes, seeing, waiting}
 
 module _ {M C R F : Type 0} (history : M → List (Entry C R)) (fixed : M → F) where
   -- what a step that goes from d leaves
@@ -99,5 +99,5 @@ module _ {M C R F : Type 0} (history : M → List (Entry C R)) (fixed : M → F)
 
 module _ {M C R F : Type 0} (history : M → List (Entry C R)) (fixed : M → F) where
   pub splits_as : (k : Start M) (id : ℕ) (m : SeatState M) (d : PassView M) → m ≡ (Some d, []) → IsIdle d
-      → 1 ≤ d.block → d.kept ≡ [] → Splits (Kept history fixed k) id m.0 (rest_of m.0) (first_of m.0)
-  splits_as k id m d is idle some_left alone = subst (λ (x : SeatState M). Splits (Kept history fixed k) id x.0 (rest_of x.0) (first_of x.0)) (sym is) (splits history fixed k id d idle some_left alone)
+      → 1 ≤ d.block → d.kept ≡ [] → Splits (Kept history fixed k) id m.0 (other_passes m.0) (first_pass m.0)
+  splits_as k id m d is idle some_left alone = subst (λ (x : SeatState M). Splits (Kept history fixed k) id x.0 (other_passes x.0) (first_pass x.0)) (sym is) (splits history fixed k id d idle some_left alone)

@@ -100,13 +100,13 @@ module _ {M : Type 0} where
   members d = as_joined d ∷ d.kept
 
 -- a pass is made from the first number, and the rest of the block stays
-abbrev pub rest_of : {M : Type 0} → Option (PassView M) → Option (PassView M)
-rest_of None = None
-rest_of (Some d) = Some (less_first d)
+abbrev pub other_passes : {M : Type 0} → Option (PassView M) → Option (PassView M)
+other_passes None = None
+other_passes (Some d) = Some (less_first d)
 
-abbrev pub first_of : {M : Type 0} → Option (PassView M) → Option (PassView M)
-first_of None = None
-first_of (Some d) = Some (only_first d)
+abbrev pub first_pass : {M : Type 0} → Option (PassView M) → Option (PassView M)
+first_pass None = None
+first_pass (Some d) = Some (only_first d)
 
 -- the second is joined into the first
 abbrev pub both_of : {M : Type 0} → Option (PassView M) → Option (PassView M) → Option (PassView M)

@@ -1,7 +1,7 @@
 // The rule of the room's table, and each kind of step on it. No value of these types is made.
 ghost use Rattle.frp_gate.specs.Rule.{Kept};
 ghost use Rattle.frp_gate.specs.Steps.{Draws, Looks, Takes, Publishes, PutsBack, PassesOn, Reads};
-ghost use Rattle.frp_gate.specs.Views.{fresh_view, rest_of, first_of, both_of};
+ghost use Rattle.frp_gate.specs.Views.{fresh_view, other_passes, first_pass, both_of};
 ghost use Rattle.std.specs.Prelude.{Some, None, length};
 
 use crate::Machine;
@@ -87,9 +87,9 @@ impl<M: Machine> Play<M, Option<PassView<M>>> for Read<M> {
 pub struct NextPass;
 
 impl<M: Machine> Split<Option<PassView<M>>> for NextPass {
-    ghost left = { rest_of };
+    ghost left = { other_passes };
 
-    ghost right = { first_of };
+    ghost right = { first_pass };
 }
 
 impl<M: Machine> Join<Option<PassView<M>>> for NextPass {

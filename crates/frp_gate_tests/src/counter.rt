@@ -31,6 +31,7 @@ pub struct Pause {
 }
 
 impl Pause {
+    /// A pause that no call has come to yet, of at most so many turns.
     pub fn new(turns: u32) -> Pause {
         Pause {
             turns,

@@ -8,12 +8,12 @@ use Rattle.frp_graph.specs.declared.shape.Shape.TheVariants.{Sink, Never, Consta
 use Rattle.frp_graph.specs.Trace.{Sight}
 use Rattle.frp_graph.specs.TypedProg.{sigs}
 use Rattle.frp_graph.specs.Values.{type_among}
-use Rattle.frp_graph.specs.WellFormed.{Gives, Allows}
+use Rattle.frp_graph.specs.WellFormed.{Returns, Allows}
 use Rattle.frp_graph.specs.ShapeLaws.{Stays}
 use Rattle.frp_graph.proofs.TypedValues.{are_stay}
 
 module _ (prog : Prog) (w u : Sight) (more : Stays (type_among w.node) (type_among u.node)) where
-  gives_stays : (f : Lam) (args : List Ty) (x : Ty) → Gives prog w f args x → Gives prog u f args x
+  gives_stays : (f : Lam) (args : List Ty) (x : Ty) → Returns prog w f args x → Returns prog u f args x
   gives_stays f args x g = record { kept = g.kept; kept_fit = are_stay (sigs prog) (type_among w.node) (type_among u.node) more f.kept g.kept g.kept_fit; typed = g.typed }
 
   pub allowed_stays : (x : Ty) (shape : Shape) → Allows prog w x shape → Allows prog u x shape

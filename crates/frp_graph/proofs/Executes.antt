@@ -36,7 +36,7 @@ use Rattle.frp_graph.specs.Trace.{Sight}
 use Rattle.frp_graph.specs.Applied.{name_in, target}
 use Rattle.frp_graph.specs.TypedProg.{Pattern, sigs, patterns, cell_in, cell_item, is_cell, all_types, are_typed_lines, given_types}
 use Rattle.frp_graph.specs.Values.{type_among, is_value, are_values, held_in, fits_node}
-use Rattle.frp_graph.specs.WellFormed.{fits, fits_cell, Allows, IsWellFormed, HasFirsts}
+use Rattle.frp_graph.specs.WellFormed.{seen_fits, fits_cell, Allows, IsWellFormed, HasFirsts}
 use Rattle.frp_graph.specs.Births.{Plan, Instance, Execution, reference, node_of, values_from, plans_from, size_of, instance, execution}
 use Rattle.frp_graph.specs.ShapeLaws.{IsInstance, InstancesAreThere}
 use Rattle.frp_graph.proofs.Lists.{or_true}
@@ -121,7 +121,7 @@ module _ (prog : Prog) (w : Sight) (formed : IsWellFormed prog w) (firsts : HasF
       → is_value prog w.node v a ≡ true
   fired_fits k y a v e s o =
       let occurs : w.occ y.name ≡ Some v = ap w.occ (formed.named k y e) ∙ o in
-      let fit : fits prog w y (Some v) ≡ true = rw occurs at (formed.occurrences k y e) in
+      let fit : seen_fits prog w y (Some v) ≡ true = rw occurs at (formed.occurrences k y e) in
       held_fits y.ty a v (ap held_in (ap out-Ty s ∙ out_stream a)) fit
 
   -- a value of a cell's type refers to a live cell of the type
@@ -220,8 +220,8 @@ module _ (prog : Prog) (w : Sight) (formed : IsWellFormed prog w) (firsts : HasF
       let ts : List Ty = given_types (sigs prog) prog.codes typed.earlier body in
       let given : ts ≡ d.param ∷ d.kept = λ i. option_to_list (typed.param i) ++ typed.kept i in
       let fit : are_values prog w.node (v ∷ kept) (d.param ∷ d.kept) ≡ true = true_both _ _ h k in
-      let fits : are_values prog w.node (v ∷ kept) ts ≡ true = rw given fit in
-      let are : Are [] (v ∷ kept) ts = where_all (type_among w.node) (sigs prog) (is_other []) (v ∷ kept) ts fits in
+      let all_fit : are_values prog w.node (v ∷ kept) ts ≡ true = rw given fit in
+      let are : Are [] (v ∷ kept) ts = where_all (type_among w.node) (sigs prog) (is_other []) (v ∷ kept) ts all_fit in
       let types : List Ty = all_types (sigs prog) prog.codes typed.earlier ts body.lines in
       let all = values_there (made_name n w.time) typed.earlier types body.lines 0 (v ∷ kept) ts [] are typed.typed in
       let plans : List Plan = plans_from (made_name n w.time) all.0 0 (length kept + 1) body.lines in

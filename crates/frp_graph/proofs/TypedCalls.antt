@@ -26,7 +26,7 @@ use Rattle.frp_graph.specs.Trace.{Sight}
 use Rattle.frp_graph.specs.Applied.{call, fun_on, applied}
 use Rattle.frp_graph.specs.TypedProg.{sig_of, sigs, are_typed_funs}
 use Rattle.frp_graph.specs.Values.{type_among, is_value, are_values}
-use Rattle.frp_graph.specs.WellFormed.{Gives}
+use Rattle.frp_graph.specs.WellFormed.{Returns}
 use Rattle.frp_graph.proofs.Options.{mapped_some, index_is}
 use Rattle.frp_graph.proofs.TypedValues.{each_are, are_append}
 
@@ -49,7 +49,7 @@ fun_typed before (c ∷ ds) (suc i) d h e =
 
 module _ (prog : Prog) (w : Sight) where
   -- an expression of the program that gives a type for arguments of these
-  pub call_fits : (f : Lam) (args : List Val) (ts : List Ty) (b : Ty) → Gives prog w f ts b → are_values prog w.node args ts ≡ true → is_value prog w.node (call prog f args) b ≡ true
+  pub call_fits : (f : Lam) (args : List Val) (ts : List Ty) (b : Ty) → Returns prog w f ts b → are_values prog w.node args ts ≡ true → is_value prog w.node (call prog f args) b ≡ true
   call_fits f args ts b g h =
       let e = bind_some (slice_get prog.codes f.code) (λ e. type_in (sigs prog) e (g.kept ++ ts)) b g.typed in
       let q : slice_index_or prog.codes f.code (ex.Int (pos 0)) ≡ e.0 = index_is prog.codes f.code (ex.Int (pos 0)) e.0 e.1 in

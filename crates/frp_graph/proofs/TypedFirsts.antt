@@ -8,7 +8,7 @@ use Rattle.frp_graph.specs.declared.prog.Prog.{Prog}
 use Rattle.frp_graph.specs.declared.trace.Node.{Node}
 use Rattle.frp_graph.specs.declared.shape.Shape.{Shape}
 use Rattle.frp_graph.specs.declared.shape.Shape.TheVariants.{Constant, Loop, Hold, Mapc, Apply, Switchc}
-use Rattle.frp_graph.specs.Trace.{Sight, first_of}
+use Rattle.frp_graph.specs.Trace.{Sight, node_first}
 use Rattle.frp_graph.specs.Applied.{call, applied, target}
 use Rattle.frp_graph.specs.TypedProg.{sigs}
 use Rattle.frp_graph.specs.Values.{type_among, is_value}
@@ -40,7 +40,7 @@ module _ (prog : Prog) (w : Sight) (h : IsWellFormed prog w) where
       let here = refers (type_among w.node) (sigs prog) d.0 x (cell_type x kind) (cell_before prog w h c x d.0 source d.1) in
       before_fits prog w h (target d.0) x v here d.2
   first_some x (Loop to) given (kind, tied) g v e =
-      let y = then_some first_of (w.node to) v e in
+      let y = then_some node_first (w.node to) v e in
       first_fits prog w h to x v tied y.0 y.1 y.2
   first_some x _ given p g v e = absurd cc
 

@@ -25,7 +25,7 @@ use Rattle.frp_graph.specs.Trace.{Sight}
 use Rattle.frp_graph.specs.Values.{type_among, is_value, are_values}
 use Rattle.frp_graph.specs.Births.{lam_of, node_of, shape_of, given_by}
 use Rattle.frp_graph.specs.TypedProg.{Pattern, patterns, sigs, stream_item, cell_item, is_stream, is_cell, types_at, stream_of, cell_of, option_item, result_for, lam_type, shape_type, is_tied}
-use Rattle.frp_graph.specs.WellFormed.{fits_cell, Gives, Allows}
+use Rattle.frp_graph.specs.WellFormed.{fits_cell, Returns, Allows}
 use Rattle.frp_graph.specs.ShapeLaws.{IsAllowedLine}
 use Rattle.frp_graph.proofs.Options.{some_is}
 use Rattle.frp_graph.proofs.TypedValues.{IsNodeType, stream_from, cell_from, option_from, result_from, stream_is, cell_is, stream_type, stream_node, cell_node, cell_has, refers}
@@ -71,13 +71,13 @@ module _ (prog : Prog) (w : Sight) (ps : List Pattern) (vs : List Val) (ts : Lis
       subst (λ (ks : List Ty). are_values prog w.node (map (λ i. slice_index_or vs i zero_val) (i ∷ is)) ks ≡ true) (sym (some_is (x.0 ∷ xs.0) ks xs.2))
       (true_both _ _ (variable_is (type_among w.node) (sigs prog) vs ts i x.0 among x.1) (kept_fit is xs.0 xs.1))
 
-  gives : (f : LineLam) (args : List Ty) (b : Ty) → lam_type (sigs prog) prog.codes ps ts f args ≡ Some b → Gives prog w (lam_of vs f) args b
+  gives : (f : LineLam) (args : List Ty) (b : Ty) → lam_type (sigs prog) prog.codes ps ts f args ≡ Some b → Returns prog w (lam_of vs f) args b
   gives f args b p =
       let ks = bind_some (types_at ts f.kept) (λ kept. slice_get prog.codes f.code >>= λ e. type_in (sigs prog) e (kept ++ args)) b p in
       record { kept = ks.0; kept_fit = kept_fit f.kept ks.0 ks.1; typed = ks.2 }
 
-  gives_it : (f : LineLam) (args : List Ty) (b c : Ty) → lam_type (sigs prog) prog.codes ps ts f args ≡ Some b → ty_eq b c ≡ true → Gives prog w (lam_of vs f) args c
-  gives_it f args b c p e = subst (λ (y : Ty). Gives prog w (lam_of vs f) args y) ((ty_decides b c).0 e) (gives f args b p)
+  gives_it : (f : LineLam) (args : List Ty) (b c : Ty) → lam_type (sigs prog) prog.codes ps ts f args ≡ Some b → ty_eq b c ≡ true → Returns prog w (lam_of vs f) args c
+  gives_it f args b c p e = subst (λ (y : Ty). Returns prog w (lam_of vs f) args y) ((ty_decides b c).0 e) (gives f args b p)
 
   -- the kept values of an instance
   values_are : (es : List Expr) (ks : List Ty) → each_has ks (map (type_in (sigs prog)) es) ts ≡ true → are_values prog w.node (map (λ e. eval e vs) es) ks ≡ true

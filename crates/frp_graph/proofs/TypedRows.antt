@@ -24,7 +24,7 @@ use Rattle.frp_graph.specs.Sends.{sent_in}
 use Rattle.frp_graph.specs.Equations.{keep_if, map2, merged, split_item, instance_result, row}
 use Rattle.frp_graph.specs.TypedProg.{sigs}
 use Rattle.frp_graph.specs.Values.{type_among, is_value}
-use Rattle.frp_graph.specs.WellFormed.{fits, Gives, Allows, IsWellFormed}
+use Rattle.frp_graph.specs.WellFormed.{seen_fits, Returns, Allows, IsWellFormed}
 use Rattle.frp_graph.proofs.Options.{mapped_some, then_some, test_some}
 use Rattle.frp_graph.proofs.TypedValues.{stream_type, cell_type, stream_fits, cell_fits, refers, item_fits, present_fits, one_is, two_are}
 use Rattle.frp_graph.proofs.TypedCalls.{call_fits, applied_fits}
@@ -55,11 +55,11 @@ split_some w s b (Some p) v h = by (is_gt (time_cmp b p.0)) h where
 module _ (prog : Prog) (sends : List Sent) (w : Sight) (h : IsWellFormed prog w) where
   -- Calls.
 
-  call_one : (f : Lam) (a b : Ty) (y v : Val) → Gives prog w f (a ∷ []) b → is_value prog w.node y a ≡ true → call prog f (y ∷ []) ≡ v → is_value prog w.node v b ≡ true
+  call_one : (f : Lam) (a b : Ty) (y v : Val) → Returns prog w f (a ∷ []) b → is_value prog w.node y a ≡ true → call prog f (y ∷ []) ≡ v → is_value prog w.node v b ≡ true
   call_one f a b y v gives fit e =
       subst (λ (v : Val). is_value prog w.node v b ≡ true) e (call_fits prog w f (y ∷ []) (a ∷ []) b gives (one_is (type_among w.node) (sigs prog) y a fit))
 
-  call_two : (f : Lam) (a b d : Ty) (y z : Val) → Gives prog w f (a ∷ b ∷ []) d → is_value prog w.node y a ≡ true → is_value prog w.node z b ≡ true → is_value prog w.node (call prog f (y ∷ z ∷ [])) d ≡ true
+  call_two : (f : Lam) (a b d : Ty) (y z : Val) → Returns prog w f (a ∷ b ∷ []) d → is_value prog w.node y a ≡ true → is_value prog w.node z b ≡ true → is_value prog w.node (call prog f (y ∷ z ∷ [])) d ≡ true
   call_two f a b d y z gives fit also = call_fits prog w f (y ∷ z ∷ []) (a ∷ b ∷ []) d gives (two_are (type_among w.node) (sigs prog) y z a b fit also)
 
   -- The row of a node of this name, type and shape, where what is sent to it and what it makes are right.
@@ -122,7 +122,7 @@ module _ (prog : Prog) (sends : List Sent) (w : Sight) (h : IsWellFormed prog w)
       let result = result_fits prog w h.program (cell_before prog w h) n.name k kept y.0 d i.0 pattern (stream_occ prog w h s d.param y.0 source y.1) fit i.1 nodes in
       stream_fits prog w.node d.gives x v is (subst (λ (v : Val). is_value prog w.node v d.gives ≡ true) i.2 result)
 
-  pub row_typed : (n : Name) (x : Node) → w.node n ≡ Some x → fits prog w x (sent_in prog sends w.time x.name) ≡ true
-      → AllByRecursion (λ d. type_among w.node d.name ≡ Some d.ty) (plans_by prog w x) → fits prog w x (row prog sends w x x.shape) ≡ true
+  pub row_typed : (n : Name) (x : Node) → w.node n ≡ Some x → seen_fits prog w x (sent_in prog sends w.time x.name) ≡ true
+      → AllByRecursion (λ d. type_among w.node d.name ≡ Some d.ty) (plans_by prog w x) → seen_fits prog w x (row prog sends w x x.shape) ≡ true
   row_typed n x e sent live =
       some_fits prog w x (row prog sends w x x.shape) (row_some x x.ty x.shape (h.shapes n x e) (fits_some prog w x (sent_in prog sends w.time x.name) sent) live)

@@ -11,7 +11,7 @@ use Rattle.frp_graph.specs.declared.trace.Node.{Node}
 use Rattle.frp_graph.specs.Trace.{Sight, or_else, post_in}
 use Rattle.frp_graph.specs.TypedProg.{is_cell}
 use Rattle.frp_graph.specs.Values.{type_among, is_value, fits_node}
-use Rattle.frp_graph.specs.WellFormed.{fits, fits_cell, IsWellFormed}
+use Rattle.frp_graph.specs.WellFormed.{seen_fits, fits_cell, IsWellFormed}
 use Rattle.frp_graph.proofs.TypedValues.{stream_holds, cell_holds}
 
 -- the node of a type
@@ -28,11 +28,11 @@ module _ (prog : Prog) (w : Sight) where
   FitsCell x v = is_cell x && fits_node prog w.node x v ≡ true
 
   -- what may be there, by what is
-  pub fits_some : (x : Node) (o : Option Val) → fits prog w x o ≡ true → (v : Val) → o ≡ Some v → Fits x.ty v
+  pub fits_some : (x : Node) (o : Option Val) → seen_fits prog w x o ≡ true → (v : Val) → o ≡ Some v → Fits x.ty v
   fits_some x None h v e = absurd cc
   fits_some x (Some z) h v e = let q : z ≡ v = cc in subst (λ (v : Val). Fits x.ty v) q h
 
-  pub some_fits : (x : Node) (o : Option Val) → ((v : Val) → o ≡ Some v → Fits x.ty v) → fits prog w x o ≡ true
+  pub some_fits : (x : Node) (o : Option Val) → ((v : Val) → o ≡ Some v → Fits x.ty v) → seen_fits prog w x o ≡ true
   some_fits x None h = refl
   some_fits x (Some v) h = h v refl
 

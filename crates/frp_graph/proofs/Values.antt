@@ -9,7 +9,7 @@ use Rattle.frp_base.specs.declared.val.Val.{Val}
 use Rattle.frp_base.specs.Name.{name_eq, name_cmp}
 use Rattle.frp_graph.specs.declared.trace.Fact.{Fact}
 use Rattle.frp_graph.specs.declared.trace.Moment.{Moment}
-use Rattle.frp_graph.specs.Trace.{or_else, fact_in, first_of, node_in, pre, post, occ, value_after}
+use Rattle.frp_graph.specs.Trace.{or_else, fact_in, node_first, node_in, pre, post, occ, value_after}
 use Rattle.frp_graph.specs.Laws.{IsFact}
 use Rattle.frp_graph.proofs.Lists.{chosen, name_same, name_eq-same}
 use Rattle.frp_graph.proofs.Facts.{one_fact}
@@ -45,6 +45,6 @@ pub tell_apart : (past : List Moment) (m : Moment) (c : Name) → (pre past m c 
 tell_apart past m c = differ (pre past m c) (occ m c)
 
 -- what is never born with a first value has none after
-pub streams_have_no_value : (trace : List Moment) (n : Name) → AllByRecursion (λ m. option_and_then first_of (node_in m.born n) ≡ None) trace → value_after trace n ≡ None
+pub streams_have_no_value : (trace : List Moment) (n : Name) → AllByRecursion (λ m. option_and_then node_first (node_in m.born n) ≡ None) trace → value_after trace n ≡ None
 streams_have_no_value [] n h = refl
 streams_have_no_value (m ∷ ms) n h = rw h.0 (streams_have_no_value ms n h.1)

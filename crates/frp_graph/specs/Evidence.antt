@@ -28,7 +28,7 @@ use Rattle.frp_graph.specs.Births.{build, Plan, Instance, Execution, execution, 
 use Rattle.frp_graph.specs.Equations.{MeetsEquation}
 use Rattle.frp_graph.specs.FirstValues.{first_value, IsMadeAs, are_all_born}
 use Rattle.frp_graph.specs.Moments.{is_due, is_of, AtEach, IsMoment}
-use Rattle.frp_graph.specs.Sound.{IsSound, KeepsLimits}
+use Rattle.frp_graph.specs.Sound.{IsSoundAfter, KeepsLimits}
 use Rattle.frp_graph.specs.Links.{links, is_linked, is_linked_by, is_path, are_distinct, is_closed_chain, IsChainless}
 
 -- Rule 1. The moments before the transaction, with those that it finished, are those that the program has until the last time,
@@ -37,7 +37,7 @@ pub record IsReached (prog : Prog) (limits : Limits) (sends : List Sent) (k : �
   pub rising : IsStrictlySortedBy time_cmp (map (λ m. m.time) past)
   pub due : (t : Time) → is_some (moment_at past t) ≡ (is_due sends past t && is_lt (time_cmp t last.time))
   pub moments : AtEach (IsMoment prog sends) [] past
-  pub sound : AtEach (IsSound prog) [] past
+  pub sound : AtEach (IsSoundAfter prog) [] past
   pub within : KeepsLimits limits past
   pub last_due : IsTrue (is_due sends past last.time)
   pub of_this : IsTrue (list_all (λ m. is_of k m.time) (done ++ last ∷ []))
@@ -50,20 +50,20 @@ abbrev pub rank_in : List Ranked → Name → Option ℕ
 rank_in [] n = None
 rank_in (r ∷ rs) n = if name_eq r.node n then Some r.rank else rank_in rs n
 
-abbrev pub is_lower : Option ℕ → ℕ → Bool
-is_lower None level = false
-is_lower (Some rank) level = nat_lt rank level
+abbrev pub has_lower_rank : Option ℕ → ℕ → Bool
+has_lower_rank None level = false
+has_lower_rank (Some rank) level = nat_lt rank level
 
 -- whether a node is below a level: its rank is less
 abbrev pub is_below : List Ranked → ℕ → Name → Bool
-is_below ranks level n = is_lower (rank_in ranks n) level
+is_below ranks level n = has_lower_rank (rank_in ranks n) level
 
 -- whether the second node has a lower rank than the first
 abbrev pub ranks_lower : List Ranked → Name → Name → Bool
 ranks_lower ranks n k = is_lower_than (rank_in ranks n) where
   is_lower_than : Option ℕ → Bool
   is_lower_than None = false
-  is_lower_than (Some rank) = is_lower (rank_in ranks k) rank
+  is_lower_than (Some rank) = has_lower_rank (rank_in ranks k) rank
 
 -- Rule 2. There is one rank for each live node.
 pub record AreRanked (w : Sight) (ranks : List Ranked) : Type 0 where

@@ -6,7 +6,7 @@ use Rattle.frp_graph.specs.declared.trace.Node.{Node}
 use Rattle.frp_graph.specs.declared.prog.Prog.{Prog}
 use Rattle.frp_graph.specs.declared.shape.Shape.{Shape}
 use Rattle.frp_graph.specs.declared.shape.Shape.TheVariants.{Sink, Never, Constant, Map, Filter, Filteropt, Merge, Snapshot, Split, Updates, Value, Loop, Hold, Mapc, Apply, Switchs, Switchc, Execute}
-use Rattle.frp_graph.specs.Trace.{Sight, Each, first_of, node_in}
+use Rattle.frp_graph.specs.Trace.{Sight, Each, node_first, node_in}
 use Rattle.frp_graph.specs.Applied.{call, applied, target}
 use Rattle.frp_graph.specs.Births.{Plan, build, file_plans, plans_by, plan_as}
 
@@ -17,7 +17,7 @@ first_value prog w given (Hold s) = given
 first_value prog w given (Mapc f c) = option_map (λ v. call prog f (v ∷ [])) (w.pre c)
 first_value prog w given (Apply cf ca) = option_and_then (λ f. option_and_then (applied prog f) (w.pre ca)) (w.pre cf)
 first_value prog w given (Switchc c) = option_and_then (λ d. w.pre (target d)) (w.pre c)
-first_value prog w given (Loop to) = option_and_then first_of (w.node to)
+first_value prog w given (Loop to) = option_and_then node_first (w.node to)
 first_value prog w given Sink = None
 first_value prog w given Never = None
 first_value prog w given (Map f s) = None

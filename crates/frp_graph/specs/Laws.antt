@@ -12,7 +12,7 @@ use Rattle.frp_graph.specs.declared.trace.Sent.{Sent}
 use Rattle.frp_graph.specs.declared.prog.Prog.{Prog}
 use Rattle.frp_base.specs.Time.{time_eq, time_cmp}
 use Rattle.frp_base.specs.Name.{name_eq, name_cmp}
-use Rattle.frp_graph.specs.Trace.{Sight, first_of, node_in, occ, pre, post, moment_at, value_after}
+use Rattle.frp_graph.specs.Trace.{Sight, node_first, node_in, occ, pre, post, moment_at, value_after}
 use Rattle.frp_graph.specs.Applied.{call}
 use Rattle.frp_graph.specs.Sends.{join_of, sent_in}
 use Rattle.frp_graph.specs.Births.{Plan, plan_in}
@@ -83,7 +83,7 @@ BirthsAreOne = (prog : Prog) (w : Sight) (born others : List Node)
 -- A node that is never born with a first value has no value, whatever it fires: so a stream has none.
 abbrev pub StreamsHaveNoValue : Type 0
 StreamsHaveNoValue = (trace : List Moment) (n : Name)
-    → AllByRecursion (λ m. option_and_then first_of (node_in m.born n) ≡ None) trace → value_after trace n ≡ None
+    → AllByRecursion (λ m. option_and_then node_first (node_in m.born n) ≡ None) trace → value_after trace n ≡ None
 
 -- whether a send is to this sink, at this time
 abbrev pub is_sent_at : Time → Name → Sent → Bool

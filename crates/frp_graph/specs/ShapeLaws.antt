@@ -23,7 +23,7 @@ use Rattle.frp_graph.specs.Trace.{Sight}
 use Rattle.frp_graph.specs.Applied.{target}
 use Rattle.frp_graph.specs.TypedProg.{sigs, patterns, is_typed_line}
 use Rattle.frp_graph.specs.Values.{type_among, are_values}
-use Rattle.frp_graph.specs.WellFormed.{fits, fits_cell, Allows, IsWellFormed, HasFirsts}
+use Rattle.frp_graph.specs.WellFormed.{seen_fits, fits_cell, Allows, IsWellFormed, HasFirsts}
 use Rattle.frp_graph.specs.Births.{Instance, Execution, shape_of, given_by, file_plans, size_of, instance, execution, instance_in, plans_by}
 use Rattle.frp_graph.specs.Sends.{sent_in}
 use Rattle.frp_graph.specs.Equations.{row}
@@ -125,9 +125,9 @@ LinesAreAllowed = (prog : Prog) (w : Sight) (all vs : List Val) (all_types types
 abbrev pub RowsAreTyped : Type 0
 RowsAreTyped = (prog : Prog) (sends : List Sent) (w : Sight) (n : Name) (x : trace.Node)
     → IsWellFormed prog w → w.node n ≡ Some x
-    → IsTrue (fits prog w x (sent_in prog sends w.time x.name))
+    → IsTrue (seen_fits prog w x (sent_in prog sends w.time x.name))
     → AllByRecursion (λ d. type_among w.node d.name ≡ Some d.ty) (plans_by prog w x)
-    → IsTrue (fits prog w x (row prog sends w x x.shape))
+    → IsTrue (seen_fits prog w x (row prog sends w x x.shape))
 
 -- In a well-formed graph a first value is one that its node holds, where the one that is given is.
 abbrev pub FirstsAreTyped : Type 0

@@ -19,8 +19,8 @@ pub record Sounds (prog : Prog) (w : Sight) (born : List Node) (fired : List Fac
   pub chainless : IsChainless w
 
 -- so it is at moment m, after the moments before it
-abbrev pub IsSound : Prog → List Moment → Moment → Type 0
-IsSound prog past m = Sounds prog (sight_of past m) m.born m.fired
+abbrev pub IsSoundAfter : Prog → List Moment → Moment → Type 0
+IsSoundAfter prog past m = Sounds prog (sight_of past m) m.born m.fired
 
 -- No transaction has more moments than the limit, and no more nodes are live.
 pub record KeepsLimits (limits : Limits) (trace : List Moment) : Type 0 where

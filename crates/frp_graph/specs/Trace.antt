@@ -42,12 +42,12 @@ moment_at (m ∷ ms) t = if time_eq m.time t then Some m else moment_at ms t
 abbrev pub occ : Moment → Name → Option Val
 occ m n = fact_in m.fired n
 
-abbrev pub first_of : Node → Option Val
-first_of x = x.first
+abbrev pub node_first : Node → Option Val
+node_first x = x.first
 
 -- A cell's value before a moment is its first value where it is born then, else its value after the moments before.
 abbrev pub pre_from : Option Val → Moment → Name → Option Val
-pre_from earlier m c = or_else (option_and_then first_of (node_in m.born c)) earlier
+pre_from earlier m c = or_else (option_and_then node_first (node_in m.born c)) earlier
 
 -- a step changes the value of what has one; a stream, which has no first value, never has one
 abbrev pub stepped : Option Val → Option Val → Option Val

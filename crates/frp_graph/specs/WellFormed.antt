@@ -19,9 +19,9 @@ use Rattle.frp_graph.specs.Values.{type_among, are_values, fits_node}
 -- Values of their node's type.
 
 -- what is seen of a node, where something is, is a value that the node holds; and it is there for cells alone
-abbrev pub fits : Prog → Sight → Node → Option Val → Bool
-fits prog w x None = true
-fits prog w x (Some v) = fits_node prog w.node x.ty v
+abbrev pub seen_fits : Prog → Sight → Node → Option Val → Bool
+seen_fits prog w x None = true
+seen_fits prog w x (Some v) = fits_node prog w.node x.ty v
 
 abbrev pub fits_cell : Prog → Sight → Node → Option Val → Bool
 fits_cell prog w x None = true
@@ -42,7 +42,7 @@ is_typed_fact prog w f = is_of_node (w.node f.node) where
 
 -- The expression is one of the program, and gives this type for arguments of these types; its kept values are of the types
 -- that it is typed over.
-pub record Gives (prog : Prog) (w : Sight) (f : Lam) (args : List Ty) (x : Ty) : Type 0 where
+pub record Returns (prog : Prog) (w : Sight) (f : Lam) (args : List Ty) (x : Ty) : Type 0 where
   pub kept : List Ty
   pub kept_fit : IsTrue (are_values prog w.node f.kept kept)
   pub typed : (slice_get prog.codes f.code >>= λ e. type_in (sigs prog) e (kept ++ args)) ≡ Some x
@@ -58,12 +58,12 @@ module _ (prog : Prog) (w : Sight) where
   Allows x Sink = IsTrue (is_stream x && is_type x)
   Allows x Never = IsTrue (is_stream x && is_type x)
   Allows x Constant = IsTrue (is_cell x)
-  Allows x (Map f s) = (a b : Ty) × IsOf s (t.Stream a) × Gives prog w f (a ∷ []) b × (x ≡ t.Stream b)
-  Allows x (Mapc f c) = (a b : Ty) × IsOf c (t.Cell a) × Gives prog w f (a ∷ []) b × (x ≡ t.Cell b)
-  Allows x (Filter f s) = (a : Ty) × IsOf s x × Gives prog w f (a ∷ []) t.Bool × (x ≡ t.Stream a)
+  Allows x (Map f s) = (a b : Ty) × IsOf s (t.Stream a) × Returns prog w f (a ∷ []) b × (x ≡ t.Stream b)
+  Allows x (Mapc f c) = (a b : Ty) × IsOf c (t.Cell a) × Returns prog w f (a ∷ []) b × (x ≡ t.Cell b)
+  Allows x (Filter f s) = (a : Ty) × IsOf s x × Returns prog w f (a ∷ []) t.Bool × (x ≡ t.Stream a)
   Allows x (Filteropt s) = (a : Ty) × IsOf s (t.Stream (t.Option a)) × (x ≡ t.Stream a)
-  Allows x (Merge f r s) = (a : Ty) × IsOf r x × IsOf s x × Gives prog w f (a ∷ a ∷ []) a × (x ≡ t.Stream a)
-  Allows x (Snapshot f s c) = (a b d : Ty) × IsOf s (t.Stream a) × IsOf c (t.Cell b) × Gives prog w f (a ∷ b ∷ []) d × (x ≡ t.Stream d)
+  Allows x (Merge f r s) = (a : Ty) × IsOf r x × IsOf s x × Returns prog w f (a ∷ a ∷ []) a × (x ≡ t.Stream a)
+  Allows x (Snapshot f s c) = (a b d : Ty) × IsOf s (t.Stream a) × IsOf c (t.Cell b) × Returns prog w f (a ∷ b ∷ []) d × (x ≡ t.Stream d)
   Allows x (Split s) = (a : Ty) × IsOf s (t.Stream (t.List a)) × (x ≡ t.Stream a)
   Allows x (Updates c) = (a : Ty) × IsOf c (t.Cell a) × (x ≡ t.Stream a)
   Allows x (Value c) = (a : Ty) × IsOf c (t.Cell a) × (x ≡ t.Stream a)
@@ -82,8 +82,8 @@ pub record IsWellFormed (prog : Prog) (w : Sight) : Type 0 where
   pub named : (n : Name) (x : Node) → w.node n ≡ Some x → x.name ≡ n
   pub firsts : Each w (λ x. IsTrue (fits_cell prog w x x.first))
   pub befores : Each w (λ x. IsTrue (fits_cell prog w x (w.pre x.name)))
-  pub occurrences : Each w (λ x. IsTrue (fits prog w x (w.occ x.name)))
-  pub aboves : Each w (λ x. IsTrue (fits prog w x (w.above x.name)))
+  pub occurrences : Each w (λ x. IsTrue (seen_fits prog w x (w.occ x.name)))
+  pub aboves : Each w (λ x. IsTrue (seen_fits prog w x (w.above x.name)))
   pub only_live : (n : Name) (v : Val) → w.occ n ≡ Some v → IsTrue (is_some (w.node n))
 
 -- each live cell has a first value, and so a value before

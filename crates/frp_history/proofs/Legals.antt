@@ -12,7 +12,7 @@ use Rattle.frp_graph.specs.declared.prog.Prog.{Prog}
 use Rattle.frp_graph.specs.declared.limits.Limits.{Limits}
 use Rattle.frp_graph.specs.Trace.{live, moments_before}
 use Rattle.frp_graph.specs.Moments.{AtEach, IsMoment, IsTrace, is_of, transaction, moments_of}
-use Rattle.frp_graph.specs.Sound.{IsSound, KeepsLimits}
+use Rattle.frp_graph.specs.Sound.{IsSoundAfter, KeepsLimits}
 use Rattle.frp_graph.proofs.Lists.{all_follow, is_false, time_same}
 use Rattle.frp_graph.proofs.Sending.{NotAt, sent_elsewhere, moments_moved}
 use Rattle.frp_graph.proofs.Transactions.{some_rise}
@@ -93,7 +93,7 @@ module _ (prog : Prog) (limits : Limits) (entries : List Entry) (e : Entry) (tra
           moments = moments_moved prog (sends_of entries ++ last) (sends_of entries) (λ m. before place m.time ≡ true) (λ m h n. sent_elsewhere prog (sends_of entries) last m.time n (not_here m h last here)) []
               few (all_before (λ m. before place m.time) trace) (each_beginning (IsMoment prog (sends_of entries ++ last)) [] few b.rest (subst (AtEach (IsMoment prog (sends_of entries ++ last)) []) b.is t.moments));
         };
-        sound = each_beginning (IsSound prog) [] few b.rest (subst (AtEach (IsSound prog) []) b.is legal.sound);
+        sound = each_beginning (IsSoundAfter prog) [] few b.rest (subst (AtEach (IsSoundAfter prog) []) b.is legal.sound);
         within = less_moments limits few b.rest trace b.is legal.within;
         few_entries = let l : length (entries ++ e ∷ []) ≤ limits.entries = legal.few_entries in omega (arith, length-append entries (e ∷ []));
         replies = replies_moved prog limits trace few (length entries) (λ j l. sym (before_few place trace j (omega arith))) (λ j l. sym (transaction_few place trace j (omega arith))) [] entries (e ∷ [])
@@ -123,7 +123,7 @@ module _ (prog : Prog) (limits : Limits) (entries : List Entry) (e : Entry) (tra
   early : AllByRecursion (λ m. before (length entries + 1) m.time ≡ true) trace
   early = trace_early (length entries + 1) (sends_of entries) trace legal.is_trace.due (omega arith) (sends_before entries)
 
-  pub legal_after : IsTrace prog (sends_of (entries ++ e ∷ [])) (trace ++ own) → AtEach (IsSound prog) [] (trace ++ own) → KeepsLimits limits (trace ++ own)
+  pub legal_after : IsTrace prog (sends_of (entries ++ e ∷ [])) (trace ++ own) → AtEach (IsSoundAfter prog) [] (trace ++ own) → KeepsLimits limits (trace ++ own)
       → length entries + 1 ≤ limits.entries → IsReply prog limits trace own entries (length entries + 1) e.caller e.cmd e.reply
       → IsLegal prog limits (entries ++ e ∷ []) (trace ++ own)
   legal_after t sound within l reply = record {

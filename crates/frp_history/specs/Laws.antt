@@ -11,7 +11,7 @@ use Rattle.frp_graph.specs.declared.limits.Limits.{Limits}
 use Rattle.frp_graph.specs.Trace.{occ, moments_before}
 use Rattle.frp_graph.specs.Sends.{AreSendable}
 use Rattle.frp_graph.specs.Moments.{AtEach, IsTrace, is_of, moments_of}
-use Rattle.frp_graph.specs.Sound.{IsSound, KeepsLimits}
+use Rattle.frp_graph.specs.Sound.{IsSoundAfter, KeepsLimits}
 use Rattle.frp_history.specs.declared.history.Delivered.{Delivered}
 use Rattle.frp_history.specs.declared.history.Entry.{Entry}
 use Rattle.frp_history.specs.declared.history.Reply.TheVariants.{Accepted}
@@ -41,7 +41,7 @@ LegalAfter = (prog : Prog) (limits : Limits) (entries : List Entry) (e : Entry) 
     → IsLegal prog limits entries trace
     → AllByRecursion (λ m. IsTrue (is_of (length entries + 1) m.time)) own
     → IsTrace prog (sends_of (entries ++ e ∷ [])) (trace ++ own)
-    → AtEach (IsSound prog) [] (trace ++ own)
+    → AtEach (IsSoundAfter prog) [] (trace ++ own)
     → KeepsLimits limits (trace ++ own)
     → length entries + 1 ≤ limits.entries
     → IsReply prog limits trace own entries (length entries + 1) e.caller e.cmd e.reply

@@ -24,7 +24,7 @@ use Rattle.frp_graph.specs.Trace.{or_else, live, node_in, moments_before}
 use Rattle.frp_graph.specs.Values.{fits_node}
 use Rattle.frp_graph.specs.Sends.{is_sink_shape, join_of}
 use Rattle.frp_graph.specs.Moments.{AtEach, IsTrace, transaction}
-use Rattle.frp_graph.specs.Sound.{IsSound, KeepsLimits}
+use Rattle.frp_graph.specs.Sound.{IsSoundAfter, KeepsLimits}
 use Rattle.frp_graph.specs.Evidence.{IsTrueEvidence}
 use Rattle.frp_history.specs.History.{sends_at, sends_of}
 use Rattle.frp_history.specs.Listeners.{Listener, listener, IsFreeSlot, rest}
@@ -137,7 +137,7 @@ AreReplies prog limits trace past (e ∷ es) =
 -- the limits are kept, and each reply is as it must be.
 pub record IsLegal (prog : Prog) (limits : Limits) (entries : List Entry) (trace : List Moment) : Type 0 where
   pub is_trace : IsTrace prog (sends_of entries) trace
-  pub sound : AtEach (IsSound prog) [] trace
+  pub sound : AtEach (IsSoundAfter prog) [] trace
   pub within : KeepsLimits limits trace
   pub few_entries : length entries ≤ limits.entries
   pub replies : AreReplies prog limits trace [] entries

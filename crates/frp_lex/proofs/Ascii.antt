@@ -5,7 +5,7 @@ use Rattle.std.specs.List.{list_all}
 use Rattle.std.specs.Str.{IsAscii}
 use Rattle.std.proofs.lemmas.Grind.{common_steps}
 use Rattle.frp_base.proofs.Booleans.{both_true}
-use Rattle.frp_lex.specs.Bytes.{is_lower, is_upper, is_letter, is_in_name, is_in_text, is_escaped}
+use Rattle.frp_lex.specs.Bytes.{is_lower_case, is_upper, is_letter, is_in_name, is_in_text, is_escaped}
 use Rattle.frp_lex.specs.Atoms.{is_name, is_word}
 use Rattle.frp_lex.specs.Quoted.{first_bad}
 
@@ -14,7 +14,7 @@ all_ascii p below [] h i = omega arith
 all_ascii p below (b ∷ bs) h zero = below b (both_true (p b) (list_all p bs) h).0
 all_ascii p below (b ∷ bs) h (suc i) = all_ascii p below bs (both_true (p b) (list_all p bs) h).1 i
 
-lower_below : (b : ℕ) → is_lower b ≡ true → b < 128
+lower_below : (b : ℕ) → is_lower_case b ≡ true → b < 128
 lower_below b h = grind (arith, common_steps)
 
 upper_below : (b : ℕ) → is_upper b ≡ true → b < 128
@@ -34,8 +34,8 @@ escaped_below b h = grind (arith, common_steps)
 
 pub name_is_ascii : (bs : List ℕ) → is_name bs ≡ true → IsAscii bs
 name_is_ascii [] h i = omega arith
-name_is_ascii (b ∷ bs) h zero = lower_below b (both_true (is_lower b) (list_all is_in_name bs) h).0
-name_is_ascii (b ∷ bs) h (suc i) = all_ascii is_in_name in_name_below bs (both_true (is_lower b) (list_all is_in_name bs) h).1 i
+name_is_ascii (b ∷ bs) h zero = lower_below b (both_true (is_lower_case b) (list_all is_in_name bs) h).0
+name_is_ascii (b ∷ bs) h (suc i) = all_ascii is_in_name in_name_below bs (both_true (is_lower_case b) (list_all is_in_name bs) h).1 i
 
 pub word_is_ascii : (bs : List ℕ) → is_word bs ≡ true → IsAscii bs
 word_is_ascii [] h i = omega arith

@@ -9,19 +9,19 @@ use Rattle.frp_base.specs.Val.{escaped}
 use Rattle.frp_base.proofs.Booleans.{both_true, true_both}
 use Rattle.frp_lex.specs.declared.token.Kind.{Kind}
 use Rattle.frp_lex.specs.declared.token.Kind.TheVariants as k
-use Rattle.frp_lex.specs.Gives.{Outcome}
-use Rattle.frp_lex.specs.Bytes.{is_blank, is_lower, is_upper, is_letter, is_digit, is_in_name, is_in_atom, is_in_text}
-use Rattle.frp_lex.specs.Atoms.{fits, is_name, positive, negative, name_most}
-use Rattle.frp_lex.specs.Quoted.{closing, text_most}
+use Rattle.frp_lex.specs.Gives.{LexOutcome}
+use Rattle.frp_lex.specs.Bytes.{is_blank, is_lower_case, is_upper, is_letter, is_digit, is_in_name, is_in_atom, is_in_text}
+use Rattle.frp_lex.specs.Atoms.{fits_token, is_name, positive, negative, name_most}
+use Rattle.frp_lex.specs.Quoted.{closing_quote, text_most}
 use Rattle.frp_lex.specs.Tokens.{Piece, atom_from, atom_piece, text, front}
-use Rattle.frp_lex.specs.Spelling.{spelled, is_lawful}
+use Rattle.frp_lex.specs.Spelling.{spelled, is_lawful_token}
 use Rattle.frp_lex.specs.Written.{ends_atom, is_parted}
 use Rattle.frp_lex.proofs.Runs.{ends, run, all_pass}
 use Rattle.frp_lex.proofs.Numbers.{digits_decimal, decimal_some, positive_decimal, negative_decimal}
 use Rattle.frp_lex.proofs.Quotes.{closes, unescapes, good}
 
 -- what stands at the front of these bytes, of which there is one at least
-abbrev pub front_of : ℕ → List ℕ → Outcome Piece
+abbrev pub front_of : ℕ → List ℕ → LexOutcome Piece
 front_of at bs = front at (slice_index bs 0) (drop 1 bs)
 
 -- ---- atoms
@@ -54,19 +54,19 @@ letter_in_atom b h = grind (arith, common_steps)
 pub digit_in_atom : (b : ℕ) → is_digit b ≡ true → is_in_atom b ≡ true
 digit_in_atom b h = grind (arith, common_steps)
 
-pub lower_in_name : (b : ℕ) → is_lower b ≡ true → is_in_name b ≡ true
+pub lower_in_name : (b : ℕ) → is_lower_case b ≡ true → is_in_name b ≡ true
 lower_in_name b h = grind (arith, common_steps)
 
 pub upper_is_letter : (b : ℕ) → is_upper b ≡ true → is_letter b ≡ true
 upper_is_letter b h = grind (arith, common_steps)
 
-lower_no_number : (b : ℕ) → is_lower b ≡ true → (is_digit b || b == 45) ≡ false
+lower_no_number : (b : ℕ) → is_lower_case b ≡ true → (is_digit b || b == 45) ≡ false
 lower_no_number b h = grind (arith, common_steps)
 
 upper_no_number : (b : ℕ) → is_upper b ≡ true → (is_digit b || b == 45) ≡ false
 upper_no_number b h = grind (arith, common_steps)
 
-upper_not_lower : (b : ℕ) → is_upper b ≡ true → is_lower b ≡ false
+upper_not_lower : (b : ℕ) → is_upper b ≡ true → is_lower_case b ≡ false
 upper_not_lower b h = grind (arith, common_steps)
 
 digit_no_minus : (b : ℕ) → is_digit b ≡ true → (b == 45) ≡ false
@@ -76,16 +76,16 @@ digit_no_minus b h = grind (arith, common_steps)
 abbrev IsRead : Kind → List ℕ → Type 0
 IsRead kind bs = (at : ℕ) (rest : List ℕ) → ends_atom rest ≡ true → front_of at (bs ++ rest) ≡ Ok (Some kind, length bs)
 
-name_read : (t : List ℕ) → is_lawful (k.Name t) ≡ true → IsRead (k.Name t) t
+name_read : (t : List ℕ) → is_lawful_token (k.Name t) ≡ true → IsRead (k.Name t) t
 unfolding atom_from
 name_read [] h = absurd cc
 name_read (b ∷ t) h = λ at rest e.
     let p = both_true (is_name (b ∷ t)) (nat_le (length (b ∷ t)) name_most) h in
-    let q = both_true (is_lower b) (list_all is_in_name t) p.0 in
+    let q = both_true (is_lower_case b) (list_all is_in_name t) p.0 in
     let all : list_all is_in_atom (b ∷ t) ≡ true = true_both (is_in_atom b) (list_all is_in_atom t) (name_in_atom b (lower_in_name b q.0)) (all_pass is_in_name is_in_atom name_in_atom t q.1) in
     atom_front at b t rest all e ∙ rw (lower_no_number b q.0, p.0, p.1) refl
 
-word_read : (t : List ℕ) → is_lawful (k.Word t) ≡ true → IsRead (k.Word t) t
+word_read : (t : List ℕ) → is_lawful_token (k.Word t) ≡ true → IsRead (k.Word t) t
 unfolding atom_from
 word_read [] h = absurd cc
 word_read (b ∷ t) h = λ at rest e.
@@ -107,11 +107,11 @@ minus_read n ds h p = λ at rest e.
     let all : list_all is_in_atom (45 ∷ ds) ≡ true = all_pass is_digit is_in_atom digit_in_atom ds h in
     atom_front at 45 ds rest all e ∙ rw p refl
 
-number_read : (z : ℤ) → fits z ≡ true → IsRead (k.Num z) (signed_decimal z)
+number_read : (z : ℤ) → fits_token z ≡ true → IsRead (k.Num z) (signed_decimal z)
 number_read (pos n) h = let lt : n < 2 ^ 63 = grind (arith, common_steps) in digits_read n (decimal n) (digits_decimal n (omega arith)) (positive_decimal n lt) (decimal_some n (omega arith))
 number_read (negsuc n) h = let lt : n < 2 ^ 63 = grind (arith, common_steps) in minus_read n (decimal (suc n)) (digits_decimal (suc n) (omega arith)) (negative_decimal n lt)
 
-number_some : (z : ℤ) → fits z ≡ true → 1 ≤ length (signed_decimal z)
+number_some : (z : ℤ) → fits_token z ≡ true → 1 ≤ length (signed_decimal z)
 number_some (pos n) h = let lt : n < 2 ^ 63 = grind (arith, common_steps) in decimal_some n (omega arith)
 number_some (negsuc n) h = omega arith
 
@@ -120,10 +120,10 @@ number_some (negsuc n) h = omega arith
 text_piece : (at : ℕ) (t rest : List ℕ) → list_all is_in_text t ≡ true → nat_le (length t) text_most ≡ true → text at (escaped t ++ 34 ∷ rest) ≡ Ok (Some (k.Str t), length (escaped t) + 2)
 unfolding text
 text_piece at t rest h m =
-    let c : closing false 0 (escaped t ++ 34 ∷ rest) ≡ Some (length (escaped t)) = closes 0 t rest ∙ ap Some (omega arith) in
+    let c : closing_quote false 0 (escaped t ++ 34 ∷ rest) ≡ Some (length (escaped t)) = closes 0 t rest ∙ ap Some (omega arith) in
     rw (c, take-append_seam (escaped t) (34 ∷ rest), good 0 t h, unescapes t, m) refl
 
-text_read : (t : List ℕ) → is_lawful (k.Str t) ≡ true → (at : ℕ) (rest : List ℕ) → front_of at (spelled (k.Str t) ++ rest) ≡ Ok (Some (k.Str t), length (spelled (k.Str t)))
+text_read : (t : List ℕ) → is_lawful_token (k.Str t) ≡ true → (at : ℕ) (rest : List ℕ) → front_of at (spelled (k.Str t) ++ rest) ≡ Ok (Some (k.Str t), length (spelled (k.Str t)))
 unfolding front
 text_read t h at rest =
     let p = both_true (list_all is_in_text t) (nat_le (length t) text_most) h in
@@ -132,7 +132,7 @@ text_read t h at rest =
 
 -- ---- all tokens
 
-pub kind_read : (kind : Kind) → is_lawful kind ≡ true → (at : ℕ) (rest : List ℕ) → is_parted kind rest ≡ true → front_of at (spelled kind ++ rest) ≡ Ok (Some kind, length (spelled kind))
+pub kind_read : (kind : Kind) → is_lawful_token kind ≡ true → (at : ℕ) (rest : List ℕ) → is_parted kind rest ≡ true → front_of at (spelled kind ++ rest) ≡ Ok (Some kind, length (spelled kind))
 unfolding front
 kind_read k.Left h at rest p = refl
 kind_read k.Right h at rest p = refl
@@ -141,7 +141,7 @@ kind_read (k.Word t) h at rest p = word_read t h at rest p
 kind_read (k.Num z) h at rest p = number_read z h at rest p
 kind_read (k.Str t) h at rest p = text_read t h at rest
 
-pub kind_some : (kind : Kind) → is_lawful kind ≡ true → 1 ≤ length (spelled kind)
+pub kind_some : (kind : Kind) → is_lawful_token kind ≡ true → 1 ≤ length (spelled kind)
 kind_some k.Left h = omega arith
 kind_some k.Right h = omega arith
 kind_some (k.Name []) h = absurd cc

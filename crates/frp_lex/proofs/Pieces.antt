@@ -10,12 +10,12 @@ use Rattle.frp_base.specs.Val.{escaped}
 use Rattle.frp_base.proofs.Booleans.{true_both}
 use Rattle.frp_lex.specs.declared.token.Kind.{Kind}
 use Rattle.frp_lex.specs.declared.token.Kind.TheVariants as k
-use Rattle.frp_lex.specs.Gives.{Outcome, ◌>>=◌}
+use Rattle.frp_lex.specs.Gives.{LexOutcome, ◌>>=◌}
 use Rattle.frp_lex.specs.Bytes.{is_blank, is_digit, is_in_atom, is_in_comment, is_in_text}
 use Rattle.frp_lex.specs.Atoms.{number, is_name, is_word, name_most}
-use Rattle.frp_lex.specs.Quoted.{closing, first_bad, unescaped, text_most}
+use Rattle.frp_lex.specs.Quoted.{closing_quote, first_bad, unescaped, text_most}
 use Rattle.frp_lex.specs.Tokens.{Piece, number_or_fault, atom, atom_from, atom_piece, text, text_closed, text_inside, front}
-use Rattle.frp_lex.specs.Spelling.{spelled, is_lawful}
+use Rattle.frp_lex.specs.Spelling.{spelled, is_lawful_token}
 use Rattle.frp_lex.specs.Written.{ends_atom, is_parted}
 use Rattle.frp_lex.proofs.Runs.{ends, run_passes, run_ends}
 use Rattle.frp_lex.proofs.Numbers.{number_spelled}
@@ -31,7 +31,7 @@ pub record TokenFront (kind : Kind) (n : ℕ) (bs : List ℕ) : Type 0 where
   pub rest : List ℕ
   pub parts : bs ≡ spelled kind ++ rest
   pub counted : n ≡ length (spelled kind)
-  pub lawful : is_lawful kind ≡ true
+  pub lawful : is_lawful_token kind ≡ true
   pub parted : is_parted kind rest ≡ true
 
 -- what is passed over at the front
@@ -46,14 +46,14 @@ abbrev pub IsFront : Piece → List ℕ → Type 0
 IsFront (None, n) bs = PassedFront n bs
 IsFront (Some kind, n) bs = TokenFront kind n bs
 
-pub ok_same : {A : Type 0} (P : A → Type 0) (a c : A) → ◌≡◌ {A = Outcome A} (Ok a) (Ok c) → P a → P c
+pub ok_same : {A : Type 0} (P : A → Type 0) (a c : A) → ◌≡◌ {A = LexOutcome A} (Ok a) (Ok c) → P a → P c
 ok_same P a c e p = let f : a ≡ c = cc in subst P f p
 
 -- ---- atoms
 
 -- how an atom is spelled that is read as this
 abbrev IsAtom : Kind → List ℕ → Type 0
-IsAtom kind bs = (spelled kind ≡ bs) × (is_lawful kind ≡ true) × ((rest : List ℕ) → ends_atom rest ≡ true → is_parted kind rest ≡ true)
+IsAtom kind bs = (spelled kind ≡ bs) × (is_lawful_token kind ≡ true) × ((rest : List ℕ) → ends_atom rest ≡ true → is_parted kind rest ≡ true)
 
 number_is : (at : ℕ) (bs : List ℕ) (kind : Kind) (o : Option ℤ) → number bs ≡ o → number_or_fault at o ≡ Ok kind → IsAtom kind bs
 number_is at bs kind None e h = absurd cc
@@ -74,7 +74,7 @@ ends_is_ends_atom : (rest : List ℕ) → ends is_in_atom rest ≡ true → ends
 ends_is_ends_atom [] e = refl
 ends_is_ends_atom (b ∷ rest) e = e
 
-atom_piece_by : (at : ℕ) (bs run rest : List ℕ) (c : Piece) (r : Outcome Kind) → atom at run ≡ r → bs ≡ run ++ rest → ends is_in_atom rest ≡ true → (r >>= λ kind. Ok (Some kind, length run)) ≡ Ok c → IsFront c bs
+atom_piece_by : (at : ℕ) (bs run rest : List ℕ) (c : Piece) (r : LexOutcome Kind) → atom at run ≡ r → bs ≡ run ++ rest → ends is_in_atom rest ≡ true → (r >>= λ kind. Ok (Some kind, length run)) ≡ Ok c → IsFront c bs
 atom_piece_by at bs run rest c (Err f) e p q h = absurd cc
 atom_piece_by at bs run rest c (Ok kind) e p q h =
     let a = atom_is at run kind e in
@@ -108,7 +108,7 @@ text_inside_by : (at : ℕ) (inside rest : List ℕ) (c : Piece) (bad : Option �
 text_inside_by at inside rest c (Some bad) e i h = absurd cc
 text_inside_by at inside rest c None e i h = text_inside_is at inside rest c None (nat_le (length (unescaped false inside)) text_most) e refl (is_value false 0 inside i e) h
 
-text_closed_is : (at : ℕ) (bs : List ℕ) (c : Piece) (m : Option ℕ) → closing false 0 bs ≡ m → text_closed at bs m ≡ Ok c → IsFront c (34 ∷ bs)
+text_closed_is : (at : ℕ) (bs : List ℕ) (c : Piece) (m : Option ℕ) → closing_quote false 0 bs ≡ m → text_closed at bs m ≡ Ok c → IsFront c (34 ∷ bs)
 text_closed_is at bs c None e h = absurd cc
 text_closed_is at bs c (Some m) e h =
     let q = closed false 0 m bs e in
@@ -119,7 +119,7 @@ text_closed_is at bs c (Some m) e h =
 
 text_is : (at : ℕ) (bs : List ℕ) (c : Piece) → text at bs ≡ Ok c → IsFront c (34 ∷ bs)
 unfolding text
-text_is at bs c h = text_closed_is at bs c (closing false 0 bs) refl h
+text_is at bs c h = text_closed_is at bs c (closing_quote false 0 bs) refl h
 
 -- ---- all pieces
 

@@ -6,15 +6,15 @@ use Rattle.std.specs.List.{list_all}
 use Rattle.frp_base.specs.Val.{escaped}
 use Rattle.frp_base.proofs.Booleans.{both_true, true_both}
 use Rattle.frp_lex.specs.Bytes.{is_in_text, is_escaped}
-use Rattle.frp_lex.specs.Quoted.{closing, first_bad, unescaped}
+use Rattle.frp_lex.specs.Quoted.{closing_quote, first_bad, unescaped}
 
-closes_by : (n b : ℕ) (t rest : List ℕ) (q s : Bool) → (b == 34) ≡ q → (b == 92) ≡ s → ((m : ℕ) → closing false m (escaped t ++ 34 ∷ rest) ≡ Some (m + length (escaped t)))
-    → closing false n (escaped (b ∷ t) ++ 34 ∷ rest) ≡ Some (n + length (escaped (b ∷ t)))
+closes_by : (n b : ℕ) (t rest : List ℕ) (q s : Bool) → (b == 34) ≡ q → (b == 92) ≡ s → ((m : ℕ) → closing_quote false m (escaped t ++ 34 ∷ rest) ≡ Some (m + length (escaped t)))
+    → closing_quote false n (escaped (b ∷ t) ++ 34 ∷ rest) ≡ Some (n + length (escaped (b ∷ t)))
 closes_by n b t rest true s e d ih = rw e (ih (n + 1 + 1) ∙ ap Some (omega arith))
 closes_by n b t rest false true e d ih = rw (e, d) (ih (n + 1 + 1) ∙ ap Some (omega arith))
 closes_by n b t rest false false e d ih = rw (e, d) (rw (e, d) (ih (n + 1) ∙ ap Some (omega arith)))
 
-pub closes : (n : ℕ) (t rest : List ℕ) → closing false n (escaped t ++ 34 ∷ rest) ≡ Some (n + length (escaped t))
+pub closes : (n : ℕ) (t rest : List ℕ) → closing_quote false n (escaped t ++ 34 ∷ rest) ≡ Some (n + length (escaped t))
 closes n [] rest = ap Some (omega arith)
 closes n (b ∷ t) rest = closes_by n b t rest (b == 34) (b == 92) refl refl (λ m. closes m t rest)
 
@@ -56,18 +56,18 @@ pub record Closed (e : Bool) (n m : ℕ) (bs : List ℕ) : Type 0 where
 closed_more : (e d : Bool) (n m b : ℕ) (bs : List ℕ) → ((inside : List ℕ) → is_inside e inside ≡ true → is_inside d (b ∷ inside) ≡ true) → Closed e (n + 1) m bs → Closed d n m (b ∷ bs)
 closed_more e d n m b bs step c = record { inside = b ∷ c.inside; rest = c.rest; parts = ap (λ (x : List ℕ). b ∷ x) c.parts; counted = (let k = c.counted in omega arith); is = step c.inside c.is }
 
-closed_by : (n m b : ℕ) (bs : List ℕ) (q : Bool) → (b == 34) ≡ q → closing false n (b ∷ bs) ≡ Some m → (closing (b == 92) (n + 1) bs ≡ Some m → Closed (b == 92) (n + 1) m bs) → Closed false n m (b ∷ bs)
+closed_by : (n m b : ℕ) (bs : List ℕ) (q : Bool) → (b == 34) ≡ q → closing_quote false n (b ∷ bs) ≡ Some m → (closing_quote (b == 92) (n + 1) bs ≡ Some m → Closed (b == 92) (n + 1) m bs) → Closed false n m (b ∷ bs)
 closed_by n m b bs true e h ih =
     let is : b ≡ 34 = grind (arith, common_steps) in
     let k : n ≡ m = let f = rw e at h in cc in
     record { inside = []; rest = bs; parts = ap (λ (c : ℕ). c ∷ bs) is; counted = omega arith; is = refl }
 closed_by n m b bs false e h ih = closed_more (b == 92) false n m b bs (λ inside i. rw e i) (ih (rw e at h))
 
-closed_none : (e : Bool) (n m : ℕ) → closing e n [] ≡ Some m → ⊥
+closed_none : (e : Bool) (n m : ℕ) → closing_quote e n [] ≡ Some m → ⊥
 closed_none true n m h = cc
 closed_none false n m h = cc
 
-pub closed : (e : Bool) (n m : ℕ) (bs : List ℕ) → closing e n bs ≡ Some m → Closed e n m bs
+pub closed : (e : Bool) (n m : ℕ) (bs : List ℕ) → closing_quote e n bs ≡ Some m → Closed e n m bs
 closed e n m [] h = absurd (closed_none e n m h)
 closed true n m (b ∷ bs) h = closed_more false true n m b bs (λ inside i. i) (closed false (n + 1) m bs h)
 closed false n m (b ∷ bs) h = closed_by n m b bs (b == 34) refl h (closed (b == 92) (n + 1) m bs)

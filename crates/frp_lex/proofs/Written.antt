@@ -11,11 +11,11 @@ use Rattle.frp_lex.specs.declared.fault.Lex.{Lex}
 use Rattle.frp_lex.specs.declared.token.Kind.{Kind}
 use Rattle.frp_lex.specs.declared.token.Kind.TheVariants as k
 use Rattle.frp_lex.specs.declared.token.Token.{Token}
-use Rattle.frp_lex.specs.Gives.{Outcome, ◌>>=◌}
-use Rattle.frp_lex.specs.Bytes.{is_blank, is_in_comment, is_in_atom, is_in_name, is_digit, is_letter, is_lower, is_upper}
+use Rattle.frp_lex.specs.Gives.{LexOutcome, ◌>>=◌}
+use Rattle.frp_lex.specs.Bytes.{is_blank, is_in_comment, is_in_atom, is_in_name, is_digit, is_letter, is_lower_case, is_upper}
 use Rattle.frp_lex.specs.Atoms.{is_name, name_most}
 use Rattle.frp_lex.specs.Tokens.{Piece, token_at, put, tokens_from, tokens, front}
-use Rattle.frp_lex.specs.Spelling.{spelled, is_lawful}
+use Rattle.frp_lex.specs.Spelling.{spelled, is_lawful_token}
 use Rattle.frp_lex.specs.Written.{comment_after, IsGap, IsLastGap, is_parted, AreTokens, IsFaulty}
 use Rattle.frp_lex.specs.Laws.{LexedIsWritten, FaultIsFirst}
 use Rattle.frp_lex.proofs.Runs.{ends}
@@ -36,16 +36,16 @@ all_passed : (d : Bool) (at : ℕ) (bs : List ℕ) → comment_after false bs �
 all_passed d at bs h = ap (tokens_from 0 at) (sym (append-nil bs)) ∙ passed_over false d bs h [] at
 
 -- what is read at last, behind tokens
-no_more : (last : Outcome (List Token)) → last ≡ behind [] last
+no_more : (last : LexOutcome (List Token)) → last ≡ behind [] last
 no_more (Ok more) = refl
 no_more (Err f) = refl
 
-one_before : (t : Token) (ts : List Token) (last : Outcome (List Token)) → (behind ts last >>= λ more. Ok (t ∷ more)) ≡ behind (t ∷ ts) last
+one_before : (t : Token) (ts : List Token) (last : LexOutcome (List Token)) → (behind ts last >>= λ more. Ok (t ∷ more)) ≡ behind (t ∷ ts) last
 one_before t ts (Ok more) = refl
 one_before t ts (Err f) = refl
 
 -- tokens are read, where what comes last is read so
-tokens_read : (Last : ℕ → List ℕ → Type 0) (last : Outcome (List Token)) → ((at : ℕ) (bs : List ℕ) → Last at bs → tokens_from 0 at bs ≡ last)
+tokens_read : (Last : ℕ → List ℕ → Type 0) (last : LexOutcome (List Token)) → ((at : ℕ) (bs : List ℕ) → Last at bs → tokens_from 0 at bs ≡ last)
     → (ts : List Token) (at : ℕ) (bs : List ℕ) → AreTokens Last at ts bs → tokens_from 0 at bs ≡ behind ts last
 tokens_read Last last read [] at bs h = read at bs h ∙ no_more last
 tokens_read Last last read (t ∷ ts) at bs h =
@@ -53,7 +53,7 @@ tokens_read Last last read (t ∷ ts) at bs h =
     ap (tokens_from 0 at) h.parts ∙ passed_over false false h.before h.gap (spelled t.kind ++ h.rest) at ∙ ap (λ n. tokens_from 0 n (spelled t.kind ++ h.rest)) (sym h.place) in
     let second = token_read t.kind h.lawful t.at h.rest h.parted in
     let third = tokens_read Last last read ts (t.at + length (spelled t.kind)) h.rest h.more in
-    first ∙ second ∙ ap (λ (r : Outcome (List Token)). r >>= λ more. Ok (token_at t.at t.kind ∷ more)) third ∙ one_before t ts last
+    first ∙ second ∙ ap (λ (r : LexOutcome (List Token)). r >>= λ more. Ok (token_at t.at t.kind ∷ more)) third ∙ one_before t ts last
 
 gap_read : (at : ℕ) (bs : List ℕ) → IsLastGap bs → tokens_from 0 at bs ≡ Ok []
 gap_read at bs h = let d = some_of (comment_after false bs) h in all_passed d.0 at bs d.1
@@ -61,7 +61,7 @@ gap_read at bs h = let d = some_of (comment_after false bs) h in all_passed d.0 
 fault_read : (f : Lex) (at : ℕ) (bs : List ℕ) → IsFaulty f at bs → tokens_from 0 at bs ≡ Err f
 fault_read f at bs h =
     ap (tokens_from 0 at) h.parts ∙ passed_over false false h.before h.gap (h.b ∷ h.rest) at
-    ∙ ap (λ (r : Outcome Piece). r >>= λ piece. tokens_from (piece.1 - 1) (at + length h.before + 1) h.rest >>= λ more. Ok (put (at + length h.before) piece.0 more)) h.fault
+    ∙ ap (λ (r : LexOutcome Piece). r >>= λ piece. tokens_from (piece.1 - 1) (at + length h.before + 1) h.rest >>= λ more. Ok (put (at + length h.before) piece.0 more)) h.fault
 
 -- ---- what is lexed is written
 
@@ -114,13 +114,13 @@ digits_no_feed : (ds : List ℕ) → list_all is_digit ds ≡ true → 0 < lengt
 digits_no_feed [] h some = absurd (omega arith)
 digits_no_feed (d ∷ ds) h some = atom_no_feed d ds (digit_in_atom d (both_true (is_digit d) (list_all is_digit ds) h).0)
 
-no_feed : (kind : Kind) → is_lawful kind ≡ true → NoFeed (spelled kind)
+no_feed : (kind : Kind) → is_lawful_token kind ≡ true → NoFeed (spelled kind)
 no_feed k.Left h = λ rest e. absurd cc
 no_feed k.Right h = λ rest e. absurd cc
 no_feed (k.Name []) h = absurd cc
 no_feed (k.Name (b ∷ t)) h =
     let p = both_true (is_name (b ∷ t)) (nat_le (length (b ∷ t)) name_most) h in
-    atom_no_feed b t (name_in_atom b (lower_in_name b (both_true (is_lower b) (list_all is_in_name t) p.0).0))
+    atom_no_feed b t (name_in_atom b (lower_in_name b (both_true (is_lower_case b) (list_all is_in_name t) p.0).0))
 no_feed (k.Word []) h = absurd cc
 no_feed (k.Word (b ∷ t)) h = atom_no_feed b t (letter_in_atom b (upper_is_letter b (both_true (is_upper b) (list_all is_letter t) h).0))
 no_feed (k.Num (pos n)) h = let lt : n < 2 ^ 63 = grind (arith, common_steps) in digits_no_feed (decimal n) (digits_decimal n (omega arith)) (decimal_some n (omega arith))
@@ -135,7 +135,7 @@ gap_more (c ∷ passed) [] next apart (inr h) g = absurd (apart h.2)
 gap_more (c ∷ passed) (b ∷ gap) next apart h g = passed_gap (c ∷ passed) gap b (front_passed (c ∷ passed) (b ∷ gap) next h) ∙ g
 
 -- a token before tokens
-token_more : (Last : ℕ → List ℕ → Type 0) (at : ℕ) (kind : Kind) (bs : List ℕ) (ts : List Token) → is_lawful kind ≡ true → is_parted kind bs ≡ true
+token_more : (Last : ℕ → List ℕ → Type 0) (at : ℕ) (kind : Kind) (bs : List ℕ) (ts : List Token) → is_lawful_token kind ≡ true → is_parted kind bs ≡ true
     → AreTokens Last (at + length (spelled kind)) ts bs → AreTokens Last at (token_at at kind ∷ ts) (spelled kind ++ bs)
 token_more Last at kind bs ts l p h = record { before = []; rest = bs; parts = refl; gap = refl; place = sym (add-zero at); lawful = l; parted = p; more = h }
 
@@ -168,7 +168,7 @@ feed_is_blank b h = grind (arith, common_steps)
 
 -- what is at fault begins with no line feed
 fault_no_feed : (at b : ℕ) (bs : List ℕ) (f : Lex) → front at b bs ≡ Err f → ends is_in_comment (b ∷ bs) ≡ true → ⊥
-fault_no_feed at b bs f e h = let g : ◌≡◌ {A = Outcome Piece} (Ok (None, 1)) (Err f) = sym (blank_front at b bs (feed_is_blank b h)) ∙ e in absurd cc
+fault_no_feed at b bs f e h = let g : ◌≡◌ {A = LexOutcome Piece} (Ok (None, 1)) (Err f) = sym (blank_front at b bs (feed_is_blank b h)) ∙ e in absurd cc
 
 longer : (at : ℕ) (xs ys : List ℕ) → at + length (xs ++ ys) ≡ at + length xs + length ys
 longer at xs ys = omega (arith, length-append xs ys)
@@ -187,16 +187,16 @@ fault_more f at passed bs h w = record {
 -- ---- what is read
 
 -- the bytes, the first of which has this place, are read so
-abbrev IsReadAs : Outcome (List Token) → ℕ → List ℕ → Type 0
+abbrev IsReadAs : LexOutcome (List Token) → ℕ → List ℕ → Type 0
 IsReadAs (Ok ts) at bs = AreTokens (λ at rest. IsLastGap rest) at ts bs
 IsReadAs (Err f) at bs = (ts : List Token) × AreTokens (IsFaulty f) at ts bs
 
-token_before : (at : ℕ) (kind : Kind) (rest : List ℕ) (r : Outcome (List Token)) → is_lawful kind ≡ true → is_parted kind rest ≡ true → IsReadAs r (at + length (spelled kind)) rest
+token_before : (at : ℕ) (kind : Kind) (rest : List ℕ) (r : LexOutcome (List Token)) → is_lawful_token kind ≡ true → is_parted kind rest ≡ true → IsReadAs r (at + length (spelled kind)) rest
     → IsReadAs (r >>= λ more. Ok (put at (Some kind) more)) at (spelled kind ++ rest)
 token_before at kind rest (Ok ts) l p w = token_more (λ at rest. IsLastGap rest) at kind rest ts l p w
 token_before at kind rest (Err f) l p w = (token_at at kind ∷ w.0, token_more (IsFaulty f) at kind rest w.0 l p w.1)
 
-passed_before : (at : ℕ) (passed rest : List ℕ) (r : Outcome (List Token)) → IsPassed passed rest → IsReadAs r (at + length passed) rest → IsReadAs (r >>= λ more. Ok (put at None more)) at (passed ++ rest)
+passed_before : (at : ℕ) (passed rest : List ℕ) (r : LexOutcome (List Token)) → IsPassed passed rest → IsReadAs r (at + length passed) rest → IsReadAs (r >>= λ more. Ok (put at None more)) at (passed ++ rest)
 passed_before at passed rest (Ok ts) h w = passed_more (λ at rest. IsLastGap rest) last_gap_more at passed rest ts h w
 passed_before at passed rest (Err f) h w = (w.0, passed_more (IsFaulty f) (fault_more f) at passed rest w.0 h w.1)
 
@@ -221,10 +221,10 @@ passed_some (b ∷ passed) rest h = omega arith
 abbrev Reads : ℕ → Type 0
 Reads n = (at : ℕ) (bs : List ℕ) → length bs ≤ n → IsReadAs (tokens_from 0 at bs) at bs
 
-read_so : (r q : Outcome (List Token)) (at : ℕ) (bs cs : List ℕ) → r ≡ q → bs ≡ cs → IsReadAs q at cs → IsReadAs r at bs
+read_so : (r q : LexOutcome (List Token)) (at : ℕ) (bs cs : List ℕ) → r ≡ q → bs ≡ cs → IsReadAs q at cs → IsReadAs r at bs
 read_so r q at bs cs e p w = subst (λ x. IsReadAs x at bs) (sym e) (subst (λ x. IsReadAs q at x) (sym p) w)
 
-read_by : (n at b : ℕ) (bs : List ℕ) (r : Outcome Piece) → front at b bs ≡ r → length (b ∷ bs) ≤ suc n → Reads n → IsReadAs (tokens_from 0 at (b ∷ bs)) at (b ∷ bs)
+read_by : (n at b : ℕ) (bs : List ℕ) (r : LexOutcome Piece) → front at b bs ≡ r → length (b ∷ bs) ≤ suc n → Reads n → IsReadAs (tokens_from 0 at (b ∷ bs)) at (b ∷ bs)
 read_by n at b bs (Err f) e le ih =
     let is : tokens_from 0 at (b ∷ bs) ≡ Err f = rw e refl in
     subst (λ x. IsReadAs x at (b ∷ bs)) (sym is) ([], record { before = []; b = b; rest = bs; parts = refl; gap = refl; fault = ap (λ n. front n b bs) (add-zero at) ∙ e })

@@ -6,24 +6,24 @@ use Rattle.frp_lex.specs.declared.fault.LexStop.{LexStop}
 use Rattle.frp_lex.specs.declared.fault.LexStop.TheVariants as stop
 
 -- what is read, or the first fault
-abbrev pub Outcome : Type 0 → Type 0
-Outcome A = Result A Lex
+abbrev pub LexOutcome : Type 0 → Type 0
+LexOutcome A = Result A Lex
 
 infixl 10 ◌>>=◌
-abbrev pub ◌>>=◌ : {A B : Type 0} → Outcome A → (A → Outcome B) → Outcome B
+abbrev pub ◌>>=◌ : {A B : Type 0} → LexOutcome A → (A → LexOutcome B) → LexOutcome B
 (Ok x) >>= f = f x
 (Err e) >>= f = Err e
 
 -- the fault of a kind at a place
-abbrev pub fault : {A : Type 0} → ℕ → LexKind → Outcome A
-fault at kind = Err (record { place = at; kind = kind })
+abbrev pub lex_fault : {A : Type 0} → ℕ → LexKind → LexOutcome A
+lex_fault at kind = Err (record { place = at; kind = kind })
 
 -- the call stops with the fault of the outcome, or for want of memory
-abbrev pub Stops : {Y : Type 0} → LexStop → Outcome Y → Type 0
-Stops stop.Memory outcome = Unit {0}
-Stops (stop.Fault f) outcome = outcome ≡ Err f
+abbrev pub LexStops : {Y : Type 0} → LexStop → LexOutcome Y → Type 0
+LexStops stop.Memory outcome = Unit {0}
+LexStops (stop.Fault f) outcome = outcome ≡ Err f
 
 -- what the call returned, seen by view, is the outcome, unless it found no memory
-abbrev pub Gives : {X Y : Type 0} → (X → Y) → Result X LexStop → Outcome Y → Type 0
-Gives view (Ok x) outcome = outcome ≡ Ok (view x)
-Gives view (Err e) outcome = Stops e outcome
+abbrev pub LexGives : {X Y : Type 0} → (X → Y) → Result X LexStop → LexOutcome Y → Type 0
+LexGives view (Ok x) outcome = outcome ≡ Ok (view x)
+LexGives view (Err e) outcome = LexStops e outcome

@@ -3,7 +3,7 @@ use Rattle.std.specs.Prelude.{◌≡◌, ◌↔◌, ℕ, List, IsTrue, Ok, Err}
 use Rattle.frp_lex.specs.declared.fault.Lex.{Lex}
 use Rattle.frp_lex.specs.declared.token.Kind.{Kind}
 use Rattle.frp_lex.specs.declared.token.Token.{Token}
-use Rattle.frp_lex.specs.Gives.{Outcome, ◌>>=◌}
+use Rattle.frp_lex.specs.Gives.{LexOutcome, ◌>>=◌}
 use Rattle.frp_lex.specs.Tokens.{tokens}
 use Rattle.frp_lex.specs.Spelling.{spelling, kinds, kinds_read, are_lawful}
 use Rattle.frp_lex.specs.Written.{IsWritten, IsWrittenUpTo}
@@ -29,12 +29,12 @@ abbrev pub LexedIsSpelled : Type 0
 LexedIsSpelled = (bs : List ℕ) (ts : List Token) → tokens bs ≡ Ok ts → kinds_read (tokens (spelling (kinds ts))) ≡ Ok (kinds ts)
 
 -- the one line of the tokens of bytes
-abbrev pub canonical : List ℕ → Outcome (List ℕ)
-canonical bs = kinds_read (tokens bs) >>= λ ks. Ok (spelling ks)
+abbrev pub canonical_line : List ℕ → LexOutcome (List ℕ)
+canonical_line bs = kinds_read (tokens bs) >>= λ ks. Ok (spelling ks)
 
 -- a canonical line is its own canonical line
 abbrev pub CanonicalStays : Type 0
-CanonicalStays = (bs line : List ℕ) → canonical bs ≡ Ok line → canonical line ≡ Ok line
+CanonicalStays = (bs line : List ℕ) → canonical_line bs ≡ Ok line → canonical_line line ≡ Ok line
 
 -- lawful tokens that are spelled alike are the same
 abbrev pub SpellingTells : Type 0

@@ -3,10 +3,10 @@ use Rattle.std.specs.Prelude.{ℕ, ◌+◌, ◌-◌, Bool, true, false, ◌==◌
 use Rattle.frp_lex.specs.Bytes.{is_in_text, is_escaped}
 
 -- how many bytes stand before the closing quote, counted on from n
-abbrev pub closing : Bool → ℕ → List ℕ → Option ℕ
-closing escaped n [] = None
-closing true n (b ∷ bs) = closing false (n + 1) bs
-closing false n (b ∷ bs) = if b == 34 then Some n else closing (b == 92) (n + 1) bs
+abbrev pub closing_quote : Bool → ℕ → List ℕ → Option ℕ
+closing_quote escaped n [] = None
+closing_quote true n (b ∷ bs) = closing_quote false (n + 1) bs
+closing_quote false n (b ∷ bs) = if b == 34 then Some n else closing_quote (b == 92) (n + 1) bs
 
 -- the place of the first byte that a text cannot have, counted on from n; a backslash before such a byte is one
 abbrev pub first_bad : Bool → ℕ → List ℕ → Option ℕ

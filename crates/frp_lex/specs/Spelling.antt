@@ -6,9 +6,9 @@ use Rattle.frp_base.specs.Val.{escaped}
 use Rattle.frp_lex.specs.declared.token.Kind.{Kind}
 use Rattle.frp_lex.specs.declared.token.Kind.TheVariants as k
 use Rattle.frp_lex.specs.declared.token.Token.{Token}
-use Rattle.frp_lex.specs.Gives.{Outcome, ◌>>=◌}
+use Rattle.frp_lex.specs.Gives.{LexOutcome, ◌>>=◌}
 use Rattle.frp_lex.specs.Bytes.{is_in_text}
-use Rattle.frp_lex.specs.Atoms.{fits, is_name, name_most, is_word}
+use Rattle.frp_lex.specs.Atoms.{fits_token, is_name, name_most, is_word}
 use Rattle.frp_lex.specs.Quoted.{text_most}
 
 -- the spelling of a token
@@ -37,14 +37,14 @@ abbrev pub gap : Kind → Kind → List ℕ
 gap t u = if are_tight t u then [] else 32 ∷ []
 
 -- what follows a token
-abbrev pub after : Kind → List Kind → List ℕ
-after t [] = []
-after t (u ∷ us) = gap t u ++ spelled u ++ after u us
+abbrev pub spelled_after : Kind → List Kind → List ℕ
+spelled_after t [] = []
+spelled_after t (u ∷ us) = gap t u ++ spelled u ++ spelled_after u us
 
 -- tokens on one line
 abbrev pub spelling : List Kind → List ℕ
 spelling [] = []
-spelling (t ∷ ts) = spelled t ++ after t ts
+spelling (t ∷ ts) = spelled t ++ spelled_after t ts
 
 abbrev pub kind_of : Token → Kind
 kind_of t = t.kind
@@ -53,17 +53,17 @@ kind_of t = t.kind
 abbrev pub kinds : List Token → List Kind
 kinds = map kind_of
 
-abbrev pub kinds_read : Outcome (List Token) → Outcome (List Kind)
+abbrev pub kinds_read : LexOutcome (List Token) → LexOutcome (List Kind)
 kinds_read outcome = outcome >>= λ ts. Ok (kinds ts)
 
 -- what a token of some input can be
-abbrev pub is_lawful : Kind → Bool
-is_lawful k.Left = true
-is_lawful k.Right = true
-is_lawful (k.Name t) = is_name t && nat_le (length t) name_most
-is_lawful (k.Word t) = is_word t
-is_lawful (k.Num z) = fits z
-is_lawful (k.Str t) = list_all is_in_text t && nat_le (length t) text_most
+abbrev pub is_lawful_token : Kind → Bool
+is_lawful_token k.Left = true
+is_lawful_token k.Right = true
+is_lawful_token (k.Name t) = is_name t && nat_le (length t) name_most
+is_lawful_token (k.Word t) = is_word t
+is_lawful_token (k.Num z) = fits_token z
+is_lawful_token (k.Str t) = list_all is_in_text t && nat_le (length t) text_most
 
 abbrev pub are_lawful : List Kind → Bool
-are_lawful = list_all is_lawful
+are_lawful = list_all is_lawful_token

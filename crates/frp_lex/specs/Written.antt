@@ -7,7 +7,7 @@ use Rattle.frp_lex.specs.declared.token.Kind.TheVariants as k
 use Rattle.frp_lex.specs.declared.token.Token.{Token}
 use Rattle.frp_lex.specs.Bytes.{is_blank, is_in_atom}
 use Rattle.frp_lex.specs.Tokens.{front}
-use Rattle.frp_lex.specs.Spelling.{spelled, is_lawful}
+use Rattle.frp_lex.specs.Spelling.{spelled, is_lawful_token}
 
 -- Whether a comment goes on behind these bytes, or none where they are not all blanks and comments. The flag says whether one
 -- goes on before them.
@@ -43,7 +43,7 @@ pub record BeginsWith (Then : ℕ → List ℕ → Type 0) (at : ℕ) (t : Token
   pub parts : bs ≡ before ++ (spelled t.kind ++ rest)
   pub gap : IsGap before
   pub place : t.at ≡ at + length before
-  pub lawful : IsTrue (is_lawful t.kind)
+  pub lawful : IsTrue (is_lawful_token t.kind)
   pub parted : IsTrue (is_parted t.kind rest)
   pub more : Then (t.at + length (spelled t.kind)) rest
 

@@ -4,7 +4,7 @@ ghost use Rattle.std.specs.Prelude.{◌≡◌, ◌<◌, length, IfOk};
 ghost use Rattle.std.specs.Str.{IsAscii};
 ghost use Rattle.frp_lex.specs.Atoms as spec;
 ghost use Rattle.frp_lex.specs.Tokens.{atom};
-ghost use Rattle.frp_lex.specs.Gives.{Gives, fault};
+ghost use Rattle.frp_lex.specs.Gives.{LexGives, lex_fault};
 
 use crate::bytes::{are_in_name, are_letters, is_digit, is_lower, is_upper};
 use crate::fault::{Lex, LexKind, LexStop};
@@ -61,7 +61,7 @@ pub fn text_of(alloc: Global, bytes: &[u8]) -> Result<Text, Memory>
 #[tactic(auto, using(crate::proofs::Ascii::name_is_ascii, crate::proofs::Ascii::word_is_ascii), unfolding(crate::specs::Tokens::atom_from))]
 pub fn atom_of(alloc: Global, at: usize, bytes: &[u8]) -> Result<Kind, LexStop>
     requires { 0 < length bytes.now }
-    ensures { Gives (λ k. k) result (atom at bytes.now) }
+    ensures { LexGives (λ k. k) result (atom at bytes.now) }
 {
     let b = bytes[0];
     if is_digit(b) || b == b'-' {

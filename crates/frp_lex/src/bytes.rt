@@ -6,7 +6,7 @@ ghost use Rattle.frp_lex.specs.Bytes as spec;
 
 /// Whether the byte is a lower-case letter.
 pub fn is_lower(b: u8) -> bool
-    ensures { result ≡ spec.is_lower b }
+    ensures { result ≡ spec.is_lower_case b }
 {
     97 <= b && b <= 122
 }

@@ -4,7 +4,7 @@ ghost use Rattle.std.specs.Prelude.{◌≡◌, ◌≤◌, ◌+◌, length, drop,
 ghost use Rattle.std.specs.List.{prefix_len};
 ghost use Rattle.frp_lex.specs.Bytes as spec;
 ghost use Rattle.frp_lex.specs.Tokens.{front};
-ghost use Rattle.frp_lex.specs.Gives.{Gives};
+ghost use Rattle.frp_lex.specs.Gives.{LexGives};
 
 use crate::atom::{atom_of, stop};
 use crate::bytes::is_in_atom;
@@ -44,7 +44,7 @@ fn comment_len(bytes: &[u8]) -> usize
 pub fn front_of(alloc: Global, at: usize, bytes: &[u8]) -> Result<(Option<Kind>, usize), LexStop>
     requires some { 1 ≤ length bytes.now }
     requires within { at + length bytes.now ≤ usize.MAX }
-    ensures value { Gives (λ c. c) result (front at (slice_index bytes.now 0) (drop 1 bytes.now)) }
+    ensures value { LexGives (λ c. c) result (front at (slice_index bytes.now 0) (drop 1 bytes.now)) }
     ensures within { IfOk result (λ c. (1 ≤ c.1) × (c.1 ≤ length bytes.now)) }
 {
     match bytes[0] {

@@ -2,7 +2,7 @@
 
 ghost use Rattle.std.specs.Prelude.{◌≡◌, OnOk};
 ghost use Rattle.frp_lex.specs.Tokens as spec;
-ghost use Rattle.frp_lex.specs.Gives.{Gives};
+ghost use Rattle.frp_lex.specs.Gives.{LexGives};
 
 use crate::fault::LexStop;
 use crate::front::front_of;
@@ -24,7 +24,7 @@ fn add(tokens: &mut Seq<Token>, at: usize, kind: Option<Kind>) -> Result<(), Mem
 /// The tokens of the bytes, with their places from 0, or the first fault. The bytes may be any. It takes time in proportion to
 /// how many they are.
 pub fn lex(alloc: Global, bytes: &[u8]) -> Result<Seq<Token>, LexStop>
-    ensures { Gives (λ ts. ts) result (spec.tokens bytes.now) }
+    ensures { LexGives (λ ts. ts) result (spec.tokens bytes.now) }
 {
     let mut tokens = Seq::new(alloc);
     let mut at = 0;

@@ -24,7 +24,7 @@ fn value(digits: &[u8]) -> Option<u64>
 
 /// Whether the bytes are digits of which the first isn't 0.
 fn is_plain(bytes: &[u8]) -> bool
-    ensures { result ≡ spec.is_plain bytes.now }
+    ensures { result ≡ spec.is_plain_numeral bytes.now }
 {
     match bytes {
         [] => false,

@@ -4,7 +4,7 @@ ghost use Rattle.std.specs.Prelude.{◌≡◌, ◌≤◌, ◌<◌, ◌+◌, leng
 ghost use Rattle.std.specs.Str.{IsAscii};
 ghost use Rattle.frp_lex.specs.Quoted as spec;
 ghost use Rattle.frp_lex.specs.Tokens.{text};
-ghost use Rattle.frp_lex.specs.Gives.{Gives};
+ghost use Rattle.frp_lex.specs.Gives.{LexGives};
 
 use crate::atom::stop;
 use crate::bytes::{is_escaped, is_in_text};
@@ -18,7 +18,7 @@ const MOST: usize = 1024;
 
 /// How many bytes stand before the closing quote, where there is one.
 fn closing(bytes: &[u8]) -> Option<usize>
-    ensures value { result ≡ spec.closing false 0 bytes.now }
+    ensures value { result ≡ spec.closing_quote false 0 bytes.now }
     ensures within { IfSome result (λ n. n < length bytes.now) }
 {
     let mut escaped = false;
@@ -80,7 +80,7 @@ fn unescaped(alloc: Global, bytes: &[u8]) -> Result<Text, Memory>
 #[tactic(auto, using(crate::proofs::Ascii::good_is_ascii), unfolding(crate::specs::Tokens::text))]
 pub fn quoted(alloc: Global, at: usize, bytes: &[u8]) -> Result<(Option<Kind>, usize), LexStop>
     requires { at + length bytes.now ≤ usize.MAX }
-    ensures value { Gives (λ c. c) result (text at bytes.now) }
+    ensures value { LexGives (λ c. c) result (text at bytes.now) }
     ensures within { IfOk result (λ c. (1 ≤ c.1) × (c.1 ≤ length bytes.now + 1)) }
 {
     let n = match closing(bytes) {

@@ -36,8 +36,8 @@ use Rattle.frp_graph.specs.Trace.{Sight, node_in, fact_in, post_in, moment_at, o
 use Rattle.frp_graph.specs.Equations.{MeetsEquation}
 use Rattle.frp_graph.specs.Births.{build, file_plans, plans_by, plan_as}
 use Rattle.frp_graph.specs.FirstValues.{IsBornAs, are_all_born}
-use Rattle.frp_graph.specs.WellFormed.{has_typed_first, is_typed_fact, fits, fits_cell, Allows, IsWellFormed, HasFirsts}
-use Rattle.frp_graph.specs.Sound.{IsSound, KeepsLimits}
+use Rattle.frp_graph.specs.WellFormed.{has_typed_first, is_typed_fact, seen_fits, fits_cell, Allows, IsWellFormed, HasFirsts}
+use Rattle.frp_graph.specs.Sound.{IsSoundAfter, KeepsLimits}
 use Rattle.frp_graph.specs.Moments.{AtEach, IsMoment, IsTrace, items_to_split, live_at, is_due, is_child_due, splits_at, is_of, moments_of}
 use Rattle.frp_graph.specs.Links.{links, links_from, is_linked, is_closed_chain, IsChainless}
 use Rattle.frp_history.specs.History.{entry_at}
@@ -281,7 +281,7 @@ abbrev pub are_sound : Prog → (List Moment → Name → ℕ) → List Moment �
 are_sound prog rank past [] = true
 are_sound prog rank past (m ∷ ms) = is_sound prog (rank past) past m && are_sound prog rank (past ++ m ∷ []) ms
 
-is_sound_so : (prog : Prog) (rank : Name → ℕ) (past : List Moment) (m : Moment) → is_sound prog rank past m ≡ true → IsSound prog past m
+is_sound_so : (prog : Prog) (rank : Name → ℕ) (past : List Moment) (m : Moment) → is_sound prog rank past m ≡ true → IsSoundAfter prog past m
 is_sound_so prog rank past m h =
     let b = falls rank past m Birth in
     let d = falls rank past m During in
@@ -293,7 +293,7 @@ is_sound_so prog rank past m h =
     let four = both_true d a three.1 in
     record { firsts = one.0; facts = two.0; chainless = chainless rank past m three.0 four.0 four.1 }
 
-pub sound : (prog : Prog) (rank : List Moment → Name → ℕ) (past ms : List Moment) → are_sound prog rank past ms ≡ true → AtEach (IsSound prog) past ms
+pub sound : (prog : Prog) (rank : List Moment → Name → ℕ) (past ms : List Moment) → are_sound prog rank past ms ≡ true → AtEach (IsSoundAfter prog) past ms
 sound prog rank past [] h = tt
 sound prog rank past (m ∷ ms) h =
     let each = both_true (is_sound prog (rank past) past m) (are_sound prog rank (past ++ m ∷ []) ms) h in
@@ -384,7 +384,7 @@ typed codes lines l n = record { funs = refl; templates = refl; lines = l; nodes
 abbrev pub fits_at : Prog → List Moment → Moment → Node → Bool
 fits_at prog past m x = fits_cell prog (sight_of past m) x x.first
     && (fits_cell prog (sight_of past m) x ((sight_of past m).pre x.name)
-    && (fits prog (sight_of past m) x (occ m x.name) && fits prog (sight_of past m) x ((sight_of past m).above x.name)))
+    && (seen_fits prog (sight_of past m) x (occ m x.name) && seen_fits prog (sight_of past m) x ((sight_of past m).above x.name)))
 
 pub well_formed : (prog : Prog) (past : List Moment) (m : Moment) → IsTypedProg prog
     → AllByRecursion (λ x. Allows prog (sight_of past m) x.ty x.shape) (live (past ++ m ∷ [])) → list_all (fits_at prog past m) (live (past ++ m ∷ [])) ≡ true
@@ -394,8 +394,8 @@ well_formed prog past m p s f l =
     let nodes = live (past ++ m ∷ []) in
     let first : Node → Bool = λ x. fits_cell prog w x x.first in
     let before : Node → Bool = λ x. fits_cell prog w x (w.pre x.name) in
-    let now : Node → Bool = λ x. fits prog w x (occ m x.name) in
-    let above : Node → Bool = λ x. fits prog w x (w.above x.name) in
+    let now : Node → Bool = λ x. seen_fits prog w x (occ m x.name) in
+    let above : Node → Bool = λ x. seen_fits prog w x (w.above x.name) in
     let one : (n : Name) (x : Node) → node_in nodes n ≡ Some x → first x && (before x && (now x && above x)) ≡ true = each_true (fits_at prog past m) nodes f in
     record {
       program = p;

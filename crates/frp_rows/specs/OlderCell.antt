@@ -64,8 +64,8 @@ made = made_name (item 3) (2 ∷ [])
 abbrev pub made_fires : ℕ → ℕ → Fact
 made_fires k n = record { node = made k; value = num n }
 
-abbrev pub stepped : Moment
-stepped = moment (1 ∷ []) (fires 0 (num 4) ∷ fires 2 (num 4) ∷ [])
+abbrev pub first_step : Moment
+first_step = moment (1 ∷ []) (fires 0 (num 4) ∷ fires 2 (num 4) ∷ [])
 
 -- The loop begins with the first value of the cell, which has stepped since.
 abbrev pub born_late : Moment
@@ -78,11 +78,11 @@ born_late = record {
 }
 
 -- The split gives the item of the time at which it was born.
-abbrev pub given : Moment
-given = moment (2 ∷ 0 ∷ []) (made_fires 1 7 ∷ [])
+abbrev pub given_late : Moment
+given_late = moment (2 ∷ 0 ∷ []) (made_fires 1 7 ∷ [])
 
 abbrev pub trace : List Moment
-trace = first ∷ stepped ∷ born_late ∷ given
+trace = first ∷ first_step ∷ born_late ∷ given_late
     ∷ moment (4 ∷ []) (fires 0 (num 5) ∷ fires 2 (num 5) ∷ made_fires 0 5 ∷ [])
     ∷ []
 

@@ -6,7 +6,7 @@ ghost use Rattle.frp_graph.specs.Trace.{sight_of};
 ghost use Rattle.frp_graph.specs.TypedProg.{IsTypedProg};
 ghost use Rattle.frp_graph.specs.WellFormed.{IsWellFormed, HasFirsts};
 ghost use Rattle.frp_graph.specs.Moments.{AtEach, IsTrace};
-ghost use Rattle.frp_graph.specs.Sound.{IsSound};
+ghost use Rattle.frp_graph.specs.Sound.{IsSoundAfter};
 ghost use Rattle.frp_graph.specs.Sends.{AreSendable};
 ghost use Rattle.frp_graph.specs.Candidates.{candidates};
 ghost use Rattle.frp_history.specs.History.{sends_of};
@@ -226,8 +226,8 @@ pub fn unsendable()
     ensures typed { IsTypedProg unsendable_row.prog }
     ensures with_five { IsTrace unsendable_row.prog unsendable_row.sends (unsendable_row.trace 5) }
     ensures with_six { IsTrace unsendable_row.prog unsendable_row.sends (unsendable_row.trace 6) }
-    ensures sound_five { AtEach (IsSound unsendable_row.prog) [] (unsendable_row.trace 5) }
-    ensures sound_six { AtEach (IsSound unsendable_row.prog) [] (unsendable_row.trace 6) }
+    ensures sound_five { AtEach (IsSoundAfter unsendable_row.prog) [] (unsendable_row.trace 5) }
+    ensures sound_six { AtEach (IsSoundAfter unsendable_row.prog) [] (unsendable_row.trace 6) }
     ensures refused { (n : ℕ) → AreSendable unsendable_row.prog unsendable_row.sends (unsendable_row.trace n) → ⊥ }
 {}
 

@@ -4,8 +4,8 @@ use Rattle.std.specs.Prelude.{◌⊎◌, Ok, Err}
 use Rattle.frp_io.specs.Outside.{Rose, Took}
 use Rattle.frp_graph.specs.Births.{size_of}
 use Rattle.frp_graph.specs.Limits.{program_limits}
-use Rattle.frp_run.specs.Texts.{Outcome, understood}
-use Rattle.frp_run.specs.Answers.{HasRead, IfRead, IsAnswer, IsFaulty, IsUnbuilt, IsFull, HasProgram, refusal_status, status_of}
+use Rattle.frp_run.specs.Texts.{TextOutcome, understood}
+use Rattle.frp_run.specs.Answers.{HasRead, IfRead, IsAnswerTo, IsFaultyText, IsUnbuiltText, IsTooLargeText, HasProgram, refusal_status, status_of}
 use Rattle.frp_run.specs.declared.modes.Mode.{Mode}
 use Rattle.frp_run.specs.declared.refused.Fault.{Fault}
 use Rattle.frp_run.specs.declared.refused.Refused.{Refused}
@@ -22,11 +22,11 @@ gave_of left None xs t = absurd t
 gave_of left (Some rest) xs t = let e : length left ≡ length xs + length rest = ap length t ∙ length-append xs rest in omega arith
 
 -- an outcome is one
-same_ok : {A : Type 0} (o : Outcome A) (x y : A) → o ≡ Ok x → o ≡ Ok y → x ≡ y
+same_ok : {A : Type 0} (o : TextOutcome A) (x y : A) → o ≡ Ok x → o ≡ Ok y → x ≡ y
 same_ok (Ok z) x y e q = cc
 same_ok (Err w) x y e q = absurd cc
 
-not_both : {A : Type 0} (o : Outcome A) (x : A) (why : Refused) → o ≡ Ok x → o ≡ Err why → ⊥
+not_both : {A : Type 0} (o : TextOutcome A) (x : A) (why : Refused) → o ≡ Ok x → o ≡ Err why → ⊥
 not_both (Ok y) x why e q = absurd cc
 not_both (Err y) x why e q = absurd cc
 
@@ -35,13 +35,13 @@ module _ (mode : Mode) (before after : Option (List ℕ)) (faults now : ℕ) (v 
   read_of : (P : Mode → List ℕ → Type 0) → HasRead (Some mode) before after P → P mode v.bytes
   read_of P h = (subst (λ o. IfRead o after (P mode)) v.told h).2
 
-  complete_refusal : (x : Refusal) → IsAnswer (Some mode) before after faults now (a.Refused x) → (Rose faults now → ⊥) → refusal_status x ≡ 5
-  complete_refusal r.Unbuilt h n = absurd (not_both (understood mode v.bytes) v.source why.Unbuilt v.means (read_of IsUnbuilt h))
+  complete_refusal : (x : Refusal) → IsAnswerTo (Some mode) before after faults now (a.Refused x) → (Rose faults now → ⊥) → refusal_status x ≡ 5
+  complete_refusal r.Unbuilt h n = absurd (not_both (understood mode v.bytes) v.source why.Unbuilt v.means (read_of IsUnbuiltText h))
   complete_refusal r.Usage h n = absurd cc
   complete_refusal r.Read h n = absurd (n h.1)
   complete_refusal r.Memory h n = refl
-  complete_refusal r.Full h n = absurd (full_not (read_of IsFull h)) where
-    full_not : IsFull mode v.bytes → ⊥
+  complete_refusal r.Full h n = absurd (full_not (read_of IsTooLargeText h)) where
+    full_not : IsTooLargeText mode v.bytes → ⊥
     full_not f =
         let same : v.source ≡ f.0 = same_ok (understood mode v.bytes) v.source f.0 v.means f.1.0 in
         let few : size_of f.0.typed.prog.body.lines ≤ program_limits.nodes = subst (λ (u : Understood). size_of u.typed.prog.body.lines ≤ program_limits.nodes) same v.few_nodes in
@@ -53,11 +53,11 @@ module _ (mode : Mode) (before after : Option (List ℕ)) (faults now : ℕ) (v 
       let s = v.is_small in
       absurd (omega arith)
 
-  pub complete_read : (x : Answer) → IsAnswer (Some mode) before after faults now x → (Rose faults now → ⊥) → (status_of x ≡ 0) ⊎ (status_of x ≡ 5)
+  pub complete_read : (x : Answer) → IsAnswerTo (Some mode) before after faults now x → (Rose faults now → ⊥) → (status_of x ≡ 0) ⊎ (status_of x ≡ 5)
   complete_read (a.Output text) h n = inl refl
-  complete_read (a.Faulty fault line) h n = absurd (not_both (understood mode v.bytes) v.source (why.Fault fault) v.means (read_of (IsFaulty fault) h.1))
+  complete_read (a.Faulty fault line) h n = absurd (not_both (understood mode v.bytes) v.source (why.Fault fault) v.means (read_of (IsFaultyText fault) h.1))
   complete_read (a.Refused x) h n = inr (complete_refusal x h n)
 
-pub complete_answer : (asked : Option Mode) (before after : Option (List ℕ)) (faults now : ℕ) (x : Answer) → IsAnswer asked before after faults now x
+pub complete_answer : (asked : Option Mode) (before after : Option (List ℕ)) (faults now : ℕ) (x : Answer) → IsAnswerTo asked before after faults now x
     → (mode : Mode) → asked ≡ Some mode → HasProgram mode before → (Rose faults now → ⊥) → (status_of x ≡ 0) ⊎ (status_of x ≡ 5)
-complete_answer asked before after faults now x h mode e v n = complete_read mode before after faults now v x (subst (λ (o : Option Mode). IsAnswer o before after faults now x) e h) n
+complete_answer asked before after faults now x h mode e v n = complete_read mode before after faults now v x (subst (λ (o : Option Mode). IsAnswerTo o before after faults now x) e h) n

@@ -26,9 +26,9 @@ use Rattle.frp_file.specs.declared.file.RawSend.{RawSend}
 use Rattle.frp_file.specs.declared.file.Sender.{Sender}
 use Rattle.frp_graph.specs.declared.trace.Fact.{Fact}
 use Rattle.frp_graph.specs.TypedProg.{IsTypedProg}
-use Rattle.frp_file.specs.LawfulParts.{is_lawful_shape, is_lawful_item, is_lawful_decl, has_lawful_parts}
+use Rattle.frp_file.specs.LawfulParts.{are_shape_parts_lawful, are_item_parts_lawful, are_decl_parts_lawful, has_lawful_parts}
 use Rattle.frp_form.specs.File.{file_of}
-use Rattle.frp_form.proofs.LawfulReading.{read_is_lawful_lem}
+use Rattle.frp_form.proofs.LawfulReading.{parts_are_lawful_lem}
 use Rattle.frp_form.proofs.Counts.{listens_are_few_lem, one_sender_lem, sends_are_few_lem}
 use Rattle.frp_form.proofs.Lengths.{tokens_are_few_lem}
 use Rattle.frp_sugar.specs.Expanding.{expanded}
@@ -37,11 +37,11 @@ use Rattle.frp_core.specs.Small.{is_built, is_built_shape, is_built_line}
 use Rattle.frp_type.specs.Core.{is_core, is_core_decl, is_core_item, is_core_shape}
 use Rattle.frp_type.specs.Faults.{all_tied, listened, scripted, checked}
 use Rattle.frp_type.specs.Known.{Known, nothing, named, declared, all_declared, item_known}
-use Rattle.frp_type.specs.Meaning.{each, after, line_shape, item_lines, lines_of, ties_of, known_after, node_named, sent_over, references_from, meaning}
+use Rattle.frp_type.specs.Meaning.{each, known_with, line_shape, item_lines, lines_of, ties_of, known_after, node_named, sent_over, references_from, meaning}
 use Rattle.frp_type.specs.declared.typed.Typed.{Typed}
 use Rattle.frp_type.proofs.TypedShapes.{bind_ok, right_ok, ok_same}
 use Rattle.frp_type.proofs.TypedFiles.{step, after_is, sink_ok, let_ok, tie_known, fun_ok, faultless}
-use Rattle.frp_run.specs.Texts.{Outcome, ◌>>=◌, with_fault, reading, file_in, is_built_form, is_built_item, is_built_decl, is_built_file, meant, understood}
+use Rattle.frp_run.specs.Texts.{TextOutcome, ◌>>=◌, with_fault, reading, file_in, is_built_form, is_built_item, is_built_decl, is_built_file, typed_file, understood}
 use Rattle.frp_run.specs.Runs.{first_script, IsRunnable}
 use Rattle.frp_run.specs.declared.modes.Mode.{Mode}
 use Rattle.frp_run.specs.declared.refused.Fault.{Fault}
@@ -72,11 +72,11 @@ module _ (ties : List (ℕ × ℕ)) where
   lines_built k [] h = refl
   lines_built k (d ∷ ds) h =
       let two = both_true _ _ h in
-      list_all-append is_built_line (lines_of ties k d) (each (lines_of ties) (after k d) ds) ∙ true_both _ _ (decl_built k d two.0) (lines_built (after k d) ds two.1)
+      list_all-append is_built_line (lines_of ties k d) (each (lines_of ties) (known_with k d) ds) ∙ true_both _ _ (decl_built k d two.0) (lines_built (known_with k d) ds two.1)
 
 -- Steps that went well.
 
-pub step_ok : {A B : Type 0} (o : Outcome A) (g : A → Outcome B) (x : B) → (o >>= g) ≡ Ok x → (a : A) × ((o ≡ Ok a) × (g a ≡ Ok x))
+pub step_ok : {A B : Type 0} (o : TextOutcome A) (g : A → TextOutcome B) (x : B) → (o >>= g) ≡ Ok x → (a : A) × ((o ≡ Ok a) × (g a ≡ Ok x))
 step_ok (Ok a) g x e = (a, (refl, e))
 step_ok (Err why) g x e = absurd cc
 
@@ -93,24 +93,24 @@ file_read mode bytes file e =
 
 -- Its core items that are built are what the checker asks for.
 
-core_form : (form : ShapeForm) → is_built_form form ≡ true → is_lawful_shape form ≡ true → is_core_shape form ≡ true
+core_form : (form : ShapeForm) → is_built_form form ≡ true → are_shape_parts_lawful form ≡ true → is_core_shape form ≡ true
 core_form (Never ty) b h = refl
 core_form (Map x s e) b h = h
 core_form (Filter x s e) b h = h
 core_form (Hold o s) b h = h
 core_form _ b h = absurd cc
 
-core_item : (i : ItemForm) → is_built_item i ≡ true → is_lawful_item i ≡ true → is_core_item i ≡ true
+core_item : (i : ItemForm) → is_built_item i ≡ true → are_item_parts_lawful i ≡ true → is_core_item i ≡ true
 core_item (Sink n ty) b h = refl
 core_item (Let n shape) b h = core_form shape.form b h
 core_item _ b h = absurd cc
 
-core_decl : (d : Decl) → is_built_decl d ≡ true → is_lawful_decl d ≡ true → is_core_decl d ≡ true
+core_decl : (d : Decl) → is_built_decl d ≡ true → are_decl_parts_lawful d ≡ true → is_core_decl d ≡ true
 core_decl (d.Function x) b h = h
 core_decl (d.Item i) b h = core_item i.form b h
 core_decl (d.Template t) b h = absurd cc
 
-core_decls : (ds : List Decl) → list_all is_built_decl ds ≡ true → list_all is_lawful_decl ds ≡ true → list_all is_core_decl ds ≡ true
+core_decls : (ds : List Decl) → list_all is_built_decl ds ≡ true → list_all are_decl_parts_lawful ds ≡ true → list_all is_core_decl ds ≡ true
 core_decls [] b h = refl
 core_decls (d ∷ ds) b h =
     let p = both_true _ _ b in
@@ -120,7 +120,7 @@ core_decls (d ∷ ds) b h =
 pub core_of : (mode : Mode) (bytes : List ℕ) (file core : File) → file_in mode bytes ≡ Ok file → core ≡ expanded file → is_built_file core ≡ true → is_core core ≡ true
 core_of mode bytes file core e same b =
     let p = file_read mode bytes file e in
-    let lawful : has_lawful_parts file ≡ true = read_is_lawful_lem (length bytes) (reading mode) p.0 file (lexed_is_lawful_lem bytes p.0 p.1.0) p.1.1 in
+    let lawful : has_lawful_parts file ≡ true = parts_are_lawful_lem (length bytes) (reading mode) p.0 file (lexed_is_lawful_lem bytes p.0 p.1.0) p.1.1 in
     let parts : has_lawful_parts core ≡ true = ap has_lawful_parts same ∙ lawful_kept file lawful in
     let two = both_true _ _ parts in
     true_both _ _ (core_decls core.graph.decls b two.0) two.1
@@ -136,7 +136,7 @@ pub record Steps (mode : Mode) (bytes : List ℕ) (u : Understood) : Type 0 wher
   pub faultless : checked (expanded u.file) ≡ Ok known
   pub means : u.typed ≡ meaning (expanded u.file)
 
-meant_ok : (core : File) (t : Typed) → meant core ≡ Ok t → (is_built_file core ≡ true) × ((known : Known) × ((checked core ≡ Ok known) × (t ≡ meaning core)))
+meant_ok : (core : File) (t : Typed) → typed_file core ≡ Ok t → (is_built_file core ≡ true) × ((known : Known) × ((checked core ≡ Ok known) × (t ≡ meaning core)))
 meant_ok core t e = by (is_built_file core) refl where
   by : (b : Bool) → is_built_file core ≡ b → (is_built_file core ≡ true) × ((known : Known) × ((checked core ≡ Ok known) × (t ≡ meaning core)))
   by true h =
@@ -146,8 +146,8 @@ meant_ok core t e = by (is_built_file core) refl where
 
 pub steps : (mode : Mode) (bytes : List ℕ) (u : Understood) → understood mode bytes ≡ Ok u → Steps mode bytes u
 steps mode bytes u e =
-    let p = step_ok (file_in mode bytes) (λ file. meant (expanded file) >>= λ typed. Ok (record { file = file; typed = typed })) u e in
-    let q = step_ok (meant (expanded p.0)) (λ typed. Ok (record { file = p.0; typed = typed })) u p.1.1 in
+    let p = step_ok (file_in mode bytes) (λ file. typed_file (expanded file) >>= λ typed. Ok (record { file = file; typed = typed })) u e in
+    let q = step_ok (typed_file (expanded p.0)) (λ typed. Ok (record { file = p.0; typed = typed })) u p.1.1 in
     let made : ◌≡◌ {A = Understood} (record { file = p.0; typed = q.0 }) u = cc in
     let file : p.0 ≡ u.file = ap (λ (v : Understood). v.file) made in
     let typed : q.0 ≡ u.typed = ap (λ (v : Understood). v.typed) made in

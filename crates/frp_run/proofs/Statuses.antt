@@ -2,7 +2,7 @@
 use Rattle.std.proofs.Common.{◌≡◌, ℕ, ◌≤◌, List, Option, Some, None, refl, subst, arith, inl, inr}
 use Rattle.std.specs.Prelude.{◌⊎◌, ◌^◌, IsSome}
 use Rattle.frp_io.specs.Outside.{Rose, Gave}
-use Rattle.frp_run.specs.Answers.{HasRead, IsAnswer, IsAnswerOf, IsOutput, IsFaulty, IsUnbuilt, IsFull, IsRefusedAs, IsRefusedUnbuilt, GaveMore, status_of, text_of, line_of}
+use Rattle.frp_run.specs.Answers.{HasRead, IsAnswerTo, IsAnswerOf, IsOutput, IsFaultyText, IsUnbuiltText, IsTooLargeText, IsRefusedAs, IsRefusedUnbuilt, GaveMore, status_of, text_of, line_of}
 use Rattle.frp_run.specs.declared.modes.Mode.{Mode}
 use Rattle.frp_run.specs.declared.refused.Fault.{Fault}
 use Rattle.frp_run.specs.declared.answer.Refusal.TheVariants as r
@@ -17,7 +17,7 @@ has_read (Some mode) None after P Q f h = tt
 has_read (Some mode) (Some bytes) after P Q f h = (h.0, h.1, f mode bytes h.2)
 
 module _ (asked : Option Mode) (before after : Option (List ℕ)) (faults now : ℕ) (held holds : Option (List ℕ)) where
-  pub said_output : (x : Answer) → IsAnswer asked before after faults now x → Gave held holds (text_of x) → status_of x ≡ 0
+  pub said_output : (x : Answer) → IsAnswerTo asked before after faults now x → Gave held holds (text_of x) → status_of x ≡ 0
       → HasRead asked before after (λ mode bytes. (text : List ℕ) × (IsOutput text mode bytes × Gave held holds text))
   said_output (a.Output text) h g e = has_read asked before after (IsAnswerOf (a.Output text)) _ (λ mode bytes o. (text, (o, g))) h
   said_output (a.Faulty fault line) h g e = absurd cc
@@ -28,7 +28,7 @@ module _ (asked : Option Mode) (before after : Option (List ℕ)) (faults now : 
   said_output (a.Refused r.Full) h g e = absurd cc
   said_output (a.Refused r.Size) h g e = absurd cc
 
-  pub said_refused : (x : Answer) → IsAnswer asked before after faults now x → Gave held holds (text_of x) → status_of x ≡ 1
+  pub said_refused : (x : Answer) → IsAnswerTo asked before after faults now x → Gave held holds (text_of x) → status_of x ≡ 1
       → ((fault : Fault) × IsRefusedAs fault asked before after held holds) ⊎ IsRefusedUnbuilt asked before after held holds
   said_refused (a.Output text) h g e = absurd cc
   said_refused (a.Faulty fault line) h g e = inl (fault, record { cause = h.1; line = subst (λ text. Gave held holds text) h.0 g })
@@ -39,7 +39,7 @@ module _ (asked : Option Mode) (before after : Option (List ℕ)) (faults now : 
   said_refused (a.Refused r.Full) h g e = absurd cc
   said_refused (a.Refused r.Size) h g e = absurd cc
 
-  pub said_full : (x : Answer) → IsAnswer asked before after faults now x → status_of x ≡ 6 → HasRead asked before after IsFull
+  pub said_full : (x : Answer) → IsAnswerTo asked before after faults now x → status_of x ≡ 6 → HasRead asked before after IsTooLargeText
   said_full (a.Output text) h e = absurd cc
   said_full (a.Faulty fault line) h e = absurd cc
   said_full (a.Refused r.Full) h e = h
@@ -49,7 +49,7 @@ module _ (asked : Option Mode) (before after : Option (List ℕ)) (faults now : 
   said_full (a.Refused r.Memory) h e = absurd cc
   said_full (a.Refused r.Size) h e = absurd cc
 
-  pub said_usage : (x : Answer) → IsAnswer asked before after faults now x → status_of x ≡ 2 → asked ≡ None
+  pub said_usage : (x : Answer) → IsAnswerTo asked before after faults now x → status_of x ≡ 2 → asked ≡ None
   said_usage (a.Output text) h e = absurd cc
   said_usage (a.Faulty fault line) h e = absurd cc
   said_usage (a.Refused r.Usage) h e = h.0
@@ -59,7 +59,7 @@ module _ (asked : Option Mode) (before after : Option (List ℕ)) (faults now : 
   said_usage (a.Refused r.Memory) h e = absurd cc
   said_usage (a.Refused r.Size) h e = absurd cc
 
-  pub said_read : (x : Answer) → IsAnswer asked before after faults now x → status_of x ≡ 3 → Rose faults now
+  pub said_read : (x : Answer) → IsAnswerTo asked before after faults now x → status_of x ≡ 3 → Rose faults now
   said_read (a.Output text) h e = absurd cc
   said_read (a.Faulty fault line) h e = absurd cc
   said_read (a.Refused r.Read) h e = h.1
@@ -69,7 +69,7 @@ module _ (asked : Option Mode) (before after : Option (List ℕ)) (faults now : 
   said_read (a.Refused r.Memory) h e = absurd cc
   said_read (a.Refused r.Size) h e = absurd cc
 
-  pub said_size : (x : Answer) → IsAnswer asked before after faults now x → status_of x ≡ 7 → GaveMore (2 ^ 20) before after
+  pub said_size : (x : Answer) → IsAnswerTo asked before after faults now x → status_of x ≡ 7 → GaveMore (2 ^ 20) before after
   said_size (a.Output text) h e = absurd cc
   said_size (a.Faulty fault line) h e = absurd cc
   said_size (a.Refused r.Size) h e = h.1
@@ -80,15 +80,15 @@ module _ (asked : Option Mode) (before after : Option (List ℕ)) (faults now : 
   said_size (a.Refused r.Memory) h e = absurd cc
 
   -- where the words ask for no mode, nothing is read
-  pub unasked : (x : Answer) → IsAnswer asked before after faults now x → asked ≡ None → (status_of x ≡ 2) × (after ≡ before)
+  pub unasked : (x : Answer) → IsAnswerTo asked before after faults now x → asked ≡ None → (status_of x ≡ 2) × (after ≡ before)
   unasked (a.Refused r.Usage) h e = (refl, h.1)
   unasked (a.Refused r.Read) h e = absurd (let q = subst (λ (o : Option Mode). IsSome o) e h.0 in cc)
   unasked (a.Refused r.Size) h e = absurd (let q = subst (λ (o : Option Mode). IsSome o) e h.0 in cc)
   unasked (a.Refused r.Memory) h e = absurd (let q = subst (λ (o : Option Mode). IsSome o) e h in cc)
-  unasked (a.Faulty fault line) h e = absurd (subst (λ (o : Option Mode). HasRead o before after (IsFaulty fault)) e h.1)
+  unasked (a.Faulty fault line) h e = absurd (subst (λ (o : Option Mode). HasRead o before after (IsFaultyText fault)) e h.1)
   unasked (a.Output text) h e = absurd (subst (λ (o : Option Mode). HasRead o before after (IsOutput text)) e h)
-  unasked (a.Refused r.Unbuilt) h e = absurd (subst (λ (o : Option Mode). HasRead o before after IsUnbuilt) e h)
-  unasked (a.Refused r.Full) h e = absurd (subst (λ (o : Option Mode). HasRead o before after IsFull) e h)
+  unasked (a.Refused r.Unbuilt) h e = absurd (subst (λ (o : Option Mode). HasRead o before after IsUnbuiltText) e h)
+  unasked (a.Refused r.Full) h e = absurd (subst (λ (o : Option Mode). HasRead o before after IsTooLargeText) e h)
 
 -- no status is above 7, and a status that has one line is written as it
 pub status_few : (x : Answer) → status_of x ≤ 7

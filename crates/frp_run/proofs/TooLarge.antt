@@ -12,7 +12,7 @@ use Rattle.frp_graph.specs.Births.{build, size_of, file_plans}
 use Rattle.frp_graph.specs.Limits.{program_limits}
 use Rattle.frp_graph.proofs.Instances.{files_are_whole}
 use Rattle.frp_core.specs.Small.{is_built, is_built_line}
-use Rattle.frp_run.specs.Answers.{IsTooLarge}
+use Rattle.frp_run.specs.Answers.{IsTooLargeProg}
 
 -- each line of a program that is built makes a node
 size_of_lines : (ls : List Line3) → list_all is_built_line ls ≡ true → size_of ls ≡ length ls
@@ -32,7 +32,7 @@ evidence = record {
   why = Full (declared_name program_limits.nodes) program_limits.nodes;
 }
 
-pub too_large : (prog : Prog) → is_built prog ≡ true → program_limits.nodes < length prog.body.lines → IsTooLarge prog
+pub too_large : (prog : Prog) → is_built prog ≡ true → program_limits.nodes < length prog.body.lines → IsTooLargeProg prog
 too_large prog built many =
     let size : size_of prog.body.lines ≡ length prog.body.lines = size_built prog built in
     let made : length (file_plans prog) ≡ length prog.body.lines = files_are_whole prog size in

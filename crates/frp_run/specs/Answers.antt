@@ -59,7 +59,7 @@ IsOutputOf Replay u text = IsReportOf u.typed text
 IsOutputOf Check u text = IsCheckOf u.file u.typed text
 
 -- a file has more nodes than the limit, and its build has true evidence of that
-pub record IsTooLarge (prog : Prog) : Type 0 where
+pub record IsTooLargeProg (prog : Prog) : Type 0 where
   pub too_large : program_limits.nodes < size_of prog.body.lines
   pub evidence : Evidence
   pub of_kind : IsTrue (is_full evidence.why)
@@ -113,21 +113,21 @@ text_of (a.Refused refusal) = refusal_line refusal
 abbrev pub IsOutput : List ℕ → Mode → List ℕ → Type 0
 IsOutput text mode bytes = (u : Understood) × ((understood mode bytes ≡ Ok u) × (IsOutputOf mode u text))
 
-abbrev pub IsFaulty : Fault → Mode → List ℕ → Type 0
-IsFaulty fault mode bytes = understood mode bytes ≡ Err (why.Fault fault)
+abbrev pub IsFaultyText : Fault → Mode → List ℕ → Type 0
+IsFaultyText fault mode bytes = understood mode bytes ≡ Err (why.Fault fault)
 
-abbrev pub IsUnbuilt : Mode → List ℕ → Type 0
-IsUnbuilt mode bytes = understood mode bytes ≡ Err why.Unbuilt
+abbrev pub IsUnbuiltText : Mode → List ℕ → Type 0
+IsUnbuiltText mode bytes = understood mode bytes ≡ Err why.Unbuilt
 
-abbrev pub IsFull : Mode → List ℕ → Type 0
-IsFull mode bytes = (u : Understood) × ((understood mode bytes ≡ Ok u) × (IsTooLarge u.typed.prog))
+abbrev pub IsTooLargeText : Mode → List ℕ → Type 0
+IsTooLargeText mode bytes = (u : Understood) × ((understood mode bytes ≡ Ok u) × (IsTooLargeProg u.typed.prog))
 
 -- Want of memory is a free answer; usage, a source's failure and its size are answered before.
 abbrev pub IsAnswerOf : Answer → Mode → List ℕ → Type 0
 IsAnswerOf (a.Output text) mode bytes = IsOutput text mode bytes
-IsAnswerOf (a.Faulty fault line) mode bytes = (line ≡ fault_line fault) × (IsFaulty fault mode bytes)
-IsAnswerOf (a.Refused r.Unbuilt) mode bytes = IsUnbuilt mode bytes
-IsAnswerOf (a.Refused r.Full) mode bytes = IsFull mode bytes
+IsAnswerOf (a.Faulty fault line) mode bytes = (line ≡ fault_line fault) × (IsFaultyText fault mode bytes)
+IsAnswerOf (a.Refused r.Unbuilt) mode bytes = IsUnbuiltText mode bytes
+IsAnswerOf (a.Refused r.Full) mode bytes = IsTooLargeText mode bytes
 IsAnswerOf (a.Refused r.Memory) mode bytes = ⊤
 IsAnswerOf (a.Refused _) mode bytes = ⊥
 
@@ -139,19 +139,19 @@ IsFaultyAs fault _ = ⊥
 
 abbrev pub IsOutputIn : Mode → Understood → Answer → Type 0
 IsOutputIn mode u (a.Output text) = IsOutputOf mode u text
-IsOutputIn mode u (a.Refused r.Full) = IsTooLarge u.typed.prog
+IsOutputIn mode u (a.Refused r.Full) = IsTooLargeProg u.typed.prog
 IsOutputIn mode u (a.Refused r.Memory) = ⊤
 IsOutputIn mode u _ = ⊥
 
 -- What is answered where this mode is asked for: of what the source had left before and has left now, and of its counts of
 -- faults.
-abbrev pub IsAnswer : Option Mode → Option (List ℕ) → Option (List ℕ) → ℕ → ℕ → Answer → Type 0
-IsAnswer asked before after faults now (a.Refused r.Usage) = (asked ≡ None) × (after ≡ before)
-IsAnswer asked before after faults now (a.Refused r.Read) = (IsSome asked) × (Rose faults now)
-IsAnswer asked before after faults now (a.Refused r.Size) = (IsSome asked) × (GaveMore (2 ^ 20) before after)
-IsAnswer asked before after faults now (a.Refused r.Memory) = IsSome asked
-IsAnswer asked before after faults now (a.Faulty fault line) = (line ≡ fault_line fault) × (HasRead asked before after (IsFaulty fault))
-IsAnswer asked before after faults now answer = HasRead asked before after (IsAnswerOf answer)
+abbrev pub IsAnswerTo : Option Mode → Option (List ℕ) → Option (List ℕ) → ℕ → ℕ → Answer → Type 0
+IsAnswerTo asked before after faults now (a.Refused r.Usage) = (asked ≡ None) × (after ≡ before)
+IsAnswerTo asked before after faults now (a.Refused r.Read) = (IsSome asked) × (Rose faults now)
+IsAnswerTo asked before after faults now (a.Refused r.Size) = (IsSome asked) × (GaveMore (2 ^ 20) before after)
+IsAnswerTo asked before after faults now (a.Refused r.Memory) = IsSome asked
+IsAnswerTo asked before after faults now (a.Faulty fault line) = (line ≡ fault_line fault) × (HasRead asked before after (IsFaultyText fault))
+IsAnswerTo asked before after faults now answer = HasRead asked before after (IsAnswerOf answer)
 
 -- the line of a status that has one line
 abbrev pub line_of : ℕ → Option (List ℕ)
@@ -165,11 +165,11 @@ line_of status =
 
 -- Status 1: the line of the input's first fault was written, or that of a file that cannot be run yet.
 pub record IsRefusedAs (fault : Fault) (asked : Option Mode) (rest left held holds : Option (List ℕ)) : Type 0 where
-  pub cause : HasRead asked rest left (IsFaulty fault)
+  pub cause : HasRead asked rest left (IsFaultyText fault)
   pub line : Gave held holds (fault_line fault)
 
 pub record IsRefusedUnbuilt (asked : Option Mode) (rest left held holds : Option (List ℕ)) : Type 0 where
-  pub cause : HasRead asked rest left IsUnbuilt
+  pub cause : HasRead asked rest left IsUnbuiltText
   pub line : Gave held holds (codes "refused unbuilt\n")
 
 -- The source has a text that has a program, within the size, with no more nodes than the limit.
@@ -190,5 +190,5 @@ pub record GavePart (before after : Option (List ℕ)) (text : List ℕ) : Type 
 -- what the sink holds more is the first of what was to be written
 pub record AnswersPart (asked : Option Mode) (rest left : Option (List ℕ)) (faults now : ℕ) (before after : Option (List ℕ)) : Type 0 where
   pub answer : Answer
-  pub is_answer : IsAnswer asked rest left faults now answer
+  pub is_answer : IsAnswerTo asked rest left faults now answer
   pub part : GavePart before after (text_of answer)

@@ -25,16 +25,16 @@ use Rattle.frp_run.specs.declared.refused.Refused.TheVariants as r
 use Rattle.frp_run.specs.declared.understood.Understood.{Understood}
 
 -- what a pass comes to, or why the text is refused
-abbrev pub Outcome : Type 0 → Type 0
-Outcome A = Result A Refused
+abbrev pub TextOutcome : Type 0 → Type 0
+TextOutcome A = Result A Refused
 
 infixl 10 ◌>>=◌
-abbrev pub ◌>>=◌ : {A B : Type 0} → Outcome A → (A → Outcome B) → Outcome B
+abbrev pub ◌>>=◌ : {A B : Type 0} → TextOutcome A → (A → TextOutcome B) → TextOutcome B
 (Ok x) >>= g = g x
 (Err e) >>= g = Err e
 
 -- a pass, whose first fault is one of the text
-abbrev pub with_fault : {A E : Type 0} → (E → Fault) → Result A E → Outcome A
+abbrev pub with_fault : {A E : Type 0} → (E → Fault) → Result A E → TextOutcome A
 with_fault fault (Ok x) = Ok x
 with_fault fault (Err e) = Err (r.Fault (fault e))
 
@@ -44,7 +44,7 @@ reading Replay = record { one_sender = true }
 reading Check = record { one_sender = false }
 
 -- the first two passes: the file of a text
-abbrev pub file_in : Mode → List ℕ → Outcome File
+abbrev pub file_in : Mode → List ℕ → TextOutcome File
 file_in mode bytes = with_fault f.Token (tokens bytes) >>= λ ts. with_fault f.Form (file_of (length bytes) (reading mode) ts)
 
 -- Whether core items can be run yet: sinks and these four shapes, with functions, and no template.
@@ -70,9 +70,9 @@ abbrev pub is_built_file : File → Bool
 is_built_file file = list_all is_built_decl file.graph.decls
 
 -- the third pass: what a file of core items means
-abbrev pub meant : File → Outcome Typed
-meant core = if is_built_file core then (with_fault f.Type (checked core) >>= λ known. Ok (meaning core)) else Err r.Unbuilt
+abbrev pub typed_file : File → TextOutcome Typed
+typed_file core = if is_built_file core then (with_fault f.Type (checked core) >>= λ known. Ok (meaning core)) else Err r.Unbuilt
 
 -- the file of a text, and what it means once its derived forms are replaced
-abbrev pub understood : Mode → List ℕ → Outcome Understood
-understood mode bytes = file_in mode bytes >>= λ file. meant (expanded file) >>= λ typed. Ok (record { file = file; typed = typed })
+abbrev pub understood : Mode → List ℕ → TextOutcome Understood
+understood mode bytes = file_in mode bytes >>= λ file. typed_file (expanded file) >>= λ typed. Ok (record { file = file; typed = typed })

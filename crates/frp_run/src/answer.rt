@@ -6,7 +6,7 @@ ghost use Rattle.frp_graph.specs.Limits.{program_limits};
 ghost use Rattle.frp_graph.specs.TypedProg.{IsTypedProg};
 ghost use Rattle.frp_history.specs.Legal.{IsLegal};
 ghost use Rattle.frp_core.specs.Small.{is_built};
-ghost use Rattle.frp_run.specs.Answers.{mode_of, mode_word, IsOutputOf, IsOutputIn, IsReportOf, IsCheckOf, IsAnswer, IsAnswerOf, IsFaultyAs, refusal_status, refusal_line, status_of, text_of};
+ghost use Rattle.frp_run.specs.Answers.{mode_of, mode_word, IsOutputOf, IsOutputIn, IsReportOf, IsCheckOf, IsAnswerTo, IsAnswerOf, IsFaultyAs, refusal_status, refusal_line, status_of, text_of};
 ghost use Rattle.frp_run.specs.Runs.{IsRunnable, IsRunnableAs};
 ghost use Rattle.frp_run.specs.declared.modes.Mode.TheVariants.{Replay, Check};
 
@@ -108,7 +108,7 @@ impl Answer {
 
 /// What the program answers to its words and to the input that its source gives.
 pub fn answer_to<S: Source>(alloc: Global, words: &[String], source: &mut S) -> Answer
-    ensures { IsAnswer (mode_of (map string_bytes words.now)) (S.rest source.old) (S.rest source.new) (S.faults source.old) (S.faults source.new) result }
+    ensures { IsAnswerTo (mode_of (map string_bytes words.now)) (S.rest source.old) (S.rest source.new) (S.faults source.old) (S.faults source.new) result }
 {
     match asked(words) {
         Some(mode) => answer_in(alloc, mode, source),
@@ -141,7 +141,7 @@ fn mode_called(word: &str) -> Option<Mode>
 /// What the program answers in a mode to the input that its source gives.
 #[tactic(auto, using(crate::proofs::Reading::took_all))]
 fn answer_in<S: Source>(alloc: Global, mode: Mode, source: &mut S) -> Answer
-    ensures { IsAnswer (Some mode) (S.rest source.old) (S.rest source.new) (S.faults source.old) (S.faults source.new) result }
+    ensures { IsAnswerTo (Some mode) (S.rest source.old) (S.rest source.new) (S.faults source.old) (S.faults source.new) result }
 {
     match read_all(alloc, source, MOST) {
         Ok(bytes) => answer_of(alloc, mode, bytes.as_slice()),

@@ -2,7 +2,7 @@
 
 ghost use Rattle.std.specs.Prelude.{◌≡◌, ◌≤◌, ◌^◌, ℕ, List, Some, None, map, string_bytes, ◌⊎◌};
 ghost use Rattle.frp_io.specs.Outside.{Rose, Gave};
-ghost use Rattle.frp_run.specs.Answers.{mode_of, HasRead, IsOutput, IsRefusedAs, IsRefusedUnbuilt, IsFull, GaveMore, HasProgram, AnswersPart, line_of};
+ghost use Rattle.frp_run.specs.Answers.{mode_of, HasRead, IsOutput, IsRefusedAs, IsRefusedUnbuilt, IsTooLargeText, GaveMore, HasProgram, AnswersPart, line_of};
 ghost use Rattle.frp_run.specs.declared.modes.Mode.{Mode};
 ghost use Rattle.frp_run.specs.declared.refused.Fault.{Fault};
 
@@ -44,7 +44,7 @@ pub fn frp_plain<I: Source, O: Sink>(
     ensures refused { result ≡ 1 →
         ((fault : Fault) × IsRefusedAs fault (mode_of (map string_bytes words.now)) (I.rest source.old) (I.rest source.new) (O.held sink.old) (O.held sink.new))
         ⊎ IsRefusedUnbuilt (mode_of (map string_bytes words.now)) (I.rest source.old) (I.rest source.new) (O.held sink.old) (O.held sink.new) }
-    ensures full { result ≡ 6 → HasRead (mode_of (map string_bytes words.now)) (I.rest source.old) (I.rest source.new) IsFull }
+    ensures full { result ≡ 6 → HasRead (mode_of (map string_bytes words.now)) (I.rest source.old) (I.rest source.new) IsTooLargeText }
     ensures usage { result ≡ 2 → mode_of (map string_bytes words.now) ≡ None }
     ensures unread { mode_of (map string_bytes words.now) ≡ None → I.rest source.new ≡ I.rest source.old }
     ensures words { mode_of (map string_bytes words.now) ≡ None → (result ≡ 2) ⊎ (result ≡ 4) }

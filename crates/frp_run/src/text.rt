@@ -6,7 +6,7 @@ ghost use Rattle.frp_lex.specs.Tokens.{tokens as tokens_of};
 ghost use Rattle.frp_form.specs.File.{file_of};
 ghost use Rattle.frp_sugar.specs.Expanding.{expanded};
 ghost use Rattle.frp_type.specs.Core.{is_core};
-ghost use Rattle.frp_run.specs.Gives.{Gives};
+ghost use Rattle.frp_run.specs.Gives.{TextGives};
 ghost use Rattle.frp_run.specs.Texts as spec;
 ghost use Rattle.frp_run.specs.declared.refused.Fault.TheVariants as f;
 
@@ -25,7 +25,7 @@ use std::alloc::Global;
 /// The file of a text, and what it means; or why the text has no program.
 #[tactic(auto, using(crate::proofs::Runnable::core_of))]
 pub fn understand(alloc: Global, mode: Mode, bytes: &[u8]) -> Result<Understood, TextStop>
-    ensures { Gives result (spec.understood mode bytes.now) }
+    ensures { TextGives result (spec.understood mode bytes.now) }
 {
     let file = file(alloc, mode, bytes)?;
     let core = expand(alloc, &file)?;
@@ -35,7 +35,7 @@ pub fn understand(alloc: Global, mode: Mode, bytes: &[u8]) -> Result<Understood,
 
 /// The file of a text, or the text's first fault.
 fn file(alloc: Global, mode: Mode, bytes: &[u8]) -> Result<File, TextStop>
-    ensures { Gives result (spec.file_in mode bytes.now) }
+    ensures { TextGives result (spec.file_in mode bytes.now) }
 {
     let tokens = tokens(alloc, bytes)?;
     match read(alloc, tokens.as_slice(), bytes.len() as u64, reading(mode)) {
@@ -47,7 +47,7 @@ fn file(alloc: Global, mode: Mode, bytes: &[u8]) -> Result<File, TextStop>
 
 /// The tokens of a text, or its first fault.
 fn tokens(alloc: Global, bytes: &[u8]) -> Result<Seq<Token>, TextStop>
-    ensures { Gives result (spec.with_fault f.Token (tokens_of bytes.now)) }
+    ensures { TextGives result (spec.with_fault f.Token (tokens_of bytes.now)) }
 {
     match lex(alloc, bytes) {
         Ok(tokens) => Ok(tokens),
@@ -69,7 +69,7 @@ fn reading(mode: Mode) -> Reading
 /// What a file of core items means, or why it has no program.
 fn typed(alloc: Global, core: &File) -> Result<Boxed<Typed>, TextStop>
     requires { IsTrue (spec.is_built_file core.now) → IsTrue (is_core core.now) }
-    ensures { Gives result (spec.meant core.now) }
+    ensures { TextGives result (spec.typed_file core.now) }
 {
     if !is_built_file(core) {
         return Err(TextStop::Refused(Refused::Unbuilt));

@@ -16,7 +16,7 @@ use Rattle.frp_file.specs.declared.file.ShapeForm.TheVariants.{Orelse, Gate, Onc
 use Rattle.frp_sugar.specs.Made.{bound}
 use Rattle.frp_sugar.specs.Table.{let_items, shape_functions}
 use Rattle.frp_sugar.specs.Expanding.{form_items, form_functions, form_hidden, form_hidden_functions, body_items, body_functions, decl_decls, decl_hidden, decl_hidden_functions, graph_decls, expanded}
-use Rattle.frp_sugar.specs.Derived.{is_derived, is_core_form, are_core_items, is_core_decl, is_core_file}
+use Rattle.frp_sugar.specs.Derived.{is_derived, is_core_form, are_core_items, has_no_derived_form, is_core_file}
 
 -- two lists of which each passes a test
 appended : {A : Type 0} (p : A → Bool) (xs ys : List A) → list_all p xs ≡ true → list_all p ys ≡ true → list_all p (xs ++ ys) ≡ true
@@ -44,22 +44,22 @@ core_body n m [] = refl
 core_body n m (i ∷ is) =
     appended (λ j. is_core_form j.form) (form_items i.at n m i.form) _ (core_items i.at n m i.form) (core_body (n + form_hidden i.form) (m + form_hidden_functions i.form) is)
 
-core_functions : (fs : List Function) → list_all is_core_decl (map d.Function fs) ≡ true
+core_functions : (fs : List Function) → list_all has_no_derived_form (map d.Function fs) ≡ true
 core_functions [] = refl
 core_functions (f ∷ fs) = core_functions fs
 
-core_decl : (n m : ℕ) (x : Decl) → list_all is_core_decl (decl_decls n m x) ≡ true
+core_decl : (n m : ℕ) (x : Decl) → list_all has_no_derived_form (decl_decls n m x) ≡ true
 core_decl n m (d.Template t) =
-    appended is_core_decl (map d.Function (body_functions m t.items)) _ (core_functions (body_functions m t.items)) (true_both _ true (core_body 0 m t.items) refl)
+    appended has_no_derived_form (map d.Function (body_functions m t.items)) _ (core_functions (body_functions m t.items)) (true_both _ true (core_body 0 m t.items) refl)
 core_decl n m (d.Function f) = refl
 core_decl n m (d.Item i) =
-    appended is_core_decl (map d.Function (form_functions m i.form)) _ (core_functions (form_functions m i.form))
-    (list_all-map is_core_decl d.Item (form_items i.at n m i.form) ∙ core_items i.at n m i.form)
+    appended has_no_derived_form (map d.Function (form_functions m i.form)) _ (core_functions (form_functions m i.form))
+    (list_all-map has_no_derived_form d.Item (form_items i.at n m i.form) ∙ core_items i.at n m i.form)
 
-core_graph : (n m : ℕ) (ds : List Decl) → list_all is_core_decl (graph_decls n m ds) ≡ true
+core_graph : (n m : ℕ) (ds : List Decl) → list_all has_no_derived_form (graph_decls n m ds) ≡ true
 core_graph n m [] = refl
 core_graph n m (x ∷ xs) =
-    appended is_core_decl (decl_decls n m x) _ (core_decl n m x) (core_graph (n + decl_hidden x) (m + decl_hidden_functions x) xs)
+    appended has_no_derived_form (decl_decls n m x) _ (core_decl n m x) (core_graph (n + decl_hidden x) (m + decl_hidden_functions x) xs)
 
 pub expanded_core : (f : File) → is_core_file (expanded f) ≡ true
 expanded_core f = core_graph 0 0 f.graph.decls
@@ -101,15 +101,15 @@ kept_body_functions m (i ∷ is) h =
     let q = both_true (is_core_form i.form) (are_core_items is) h in
     rw (kept_functions m i.form q.0, kept_body_functions (m + form_hidden_functions i.form) is q.1) refl
 
-kept_decl : (n m : ℕ) (x : Decl) → is_core_decl x ≡ true → decl_decls n m x ≡ x ∷ []
+kept_decl : (n m : ℕ) (x : Decl) → has_no_derived_form x ≡ true → decl_decls n m x ≡ x ∷ []
 kept_decl n m (d.Template t) h = rw (kept_body_functions m t.items h, kept_body 0 m t.items h) refl
 kept_decl n m (d.Function f) h = refl
 kept_decl n m (d.Item i) h = rw (kept_functions m i.form h, kept_items i.at n m i.form h) refl
 
-kept_graph : (n m : ℕ) (ds : List Decl) → list_all is_core_decl ds ≡ true → graph_decls n m ds ≡ ds
+kept_graph : (n m : ℕ) (ds : List Decl) → list_all has_no_derived_form ds ≡ true → graph_decls n m ds ≡ ds
 kept_graph n m [] h = refl
 kept_graph n m (x ∷ xs) h =
-    let q = both_true (is_core_decl x) (list_all is_core_decl xs) h in
+    let q = both_true (has_no_derived_form x) (list_all has_no_derived_form xs) h in
     rw (kept_decl n m x q.0, kept_graph (n + decl_hidden x) (m + decl_hidden_functions x) xs q.1) refl
 
 pub core_stays : (f : File) → is_core_file f ≡ true → expanded f ≡ f

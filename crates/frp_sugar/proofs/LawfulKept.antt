@@ -20,7 +20,7 @@ use Rattle.frp_file.specs.declared.file.ItemForm.{ItemForm}
 use Rattle.frp_file.specs.declared.file.ItemForm.TheVariants.{Sink, Cellsink, Let, Tie, Get}
 use Rattle.frp_file.specs.declared.file.ShapeForm.{ShapeForm}
 use Rattle.frp_file.specs.declared.file.ShapeForm.TheVariants.{Orelse, Gate, Once, Accum, Collect, Lift2, Defer}
-use Rattle.frp_file.specs.LawfulParts.{is_lawful_shape, is_lawful_item, is_lawful_decl, is_lawful_sender, has_lawful_parts}
+use Rattle.frp_file.specs.LawfulParts.{are_shape_parts_lawful, are_item_parts_lawful, are_decl_parts_lawful, are_sender_parts_lawful, has_lawful_parts}
 use Rattle.frp_sugar.specs.Made.{spot, raw, name, bool, pair, first, second, list, close, u, v, w}
 use Rattle.frp_sugar.specs.Table.{let_items, shape_functions}
 use Rattle.frp_sugar.specs.Expanding.{form_items, form_functions, form_hidden, form_hidden_functions, body_items, body_functions, decl_decls, decl_hidden, decl_hidden_functions, graph_decls, expanded}
@@ -82,7 +82,7 @@ module _ (p : ℕ) where
 -- ---- the table
 
 abbrev item_test : Item → Bool
-item_test i = is_lawful_item i.form
+item_test i = are_item_parts_lawful i.form
 
 abbrev function_test : Function → Bool
 function_test f = is_lawful f.e
@@ -97,7 +97,7 @@ parts_of_three x y z h =
     (r.0, r.1, q.1)
 
 module _ (at : ℕ) (x : Spot) (p : ℕ) (n m : ℕ) where
-  let_lawful : (s : ShapeForm) → is_lawful_shape s ≡ true → AreLawful (let_items at x p n m s)
+  let_lawful : (s : ShapeForm) → are_shape_parts_lawful s ≡ true → AreLawful (let_items at x p n m s)
   let_lawful (Orelse a b) h = two (two h (a_name p _)) refl
   let_lawful (Gate s c) h =
       two (two h (pair_of_names p))
@@ -130,20 +130,20 @@ module _ (at : ℕ) (x : Spot) (p : ℕ) (n m : ℕ) where
       (two (a_name p _) refl)
   let_lawful s h = two h refl
 
-shape_functions_lawful : (p m : ℕ) (s : ShapeForm) → is_lawful_shape s ≡ true → list_all function_test (shape_functions p m s) ≡ true
+shape_functions_lawful : (p m : ℕ) (s : ShapeForm) → are_shape_parts_lawful s ≡ true → list_all function_test (shape_functions p m s) ≡ true
 shape_functions_lawful p m (Lift2 y z ca cb e) h = two (parts_of_three ca cb e h).2 refl
 shape_functions_lawful p m _ h = refl
 
 -- ---- items, and bodies
 
-form_lawful_items : (at n m : ℕ) (form : ItemForm) → is_lawful_item form ≡ true → AreLawful (form_items at n m form)
+form_lawful_items : (at n m : ℕ) (form : ItemForm) → are_item_parts_lawful form ≡ true → AreLawful (form_items at n m form)
 form_lawful_items at n m (Let x shape) h = let_lawful at x shape.at n m shape.form h
 form_lawful_items at n m (Cellsink s c ty o) h = two (two h (a_name at _)) refl
 form_lawful_items at n m (Sink s ty) h = refl
 form_lawful_items at n m (Tie l x) h = refl
 form_lawful_items at n m (Get x c) h = two h refl
 
-form_lawful_functions : (m : ℕ) (form : ItemForm) → is_lawful_item form ≡ true → list_all function_test (form_functions m form) ≡ true
+form_lawful_functions : (m : ℕ) (form : ItemForm) → are_item_parts_lawful form ≡ true → list_all function_test (form_functions m form) ≡ true
 form_lawful_functions m (Let x shape) h = shape_functions_lawful shape.at m shape.form h
 form_lawful_functions m _ h = refl
 
@@ -165,27 +165,27 @@ body_lawful_functions m (i ∷ is) h =
 
 -- ---- declarations, and files
 
-functions_lawful : (fs : List Function) → list_all function_test fs ≡ true → list_all is_lawful_decl (map d.Function fs) ≡ true
-functions_lawful fs h = list_all-map is_lawful_decl d.Function fs ∙ h
+functions_lawful : (fs : List Function) → list_all function_test fs ≡ true → list_all are_decl_parts_lawful (map d.Function fs) ≡ true
+functions_lawful fs h = list_all-map are_decl_parts_lawful d.Function fs ∙ h
 
-items_lawful : (is : List Item) → AreLawful is → list_all is_lawful_decl (map d.Item is) ≡ true
-items_lawful is h = list_all-map is_lawful_decl d.Item is ∙ h
+items_lawful : (is : List Item) → AreLawful is → list_all are_decl_parts_lawful (map d.Item is) ≡ true
+items_lawful is h = list_all-map are_decl_parts_lawful d.Item is ∙ h
 
-decl_lawful : (n m : ℕ) (x : Decl) → is_lawful_decl x ≡ true → list_all is_lawful_decl (decl_decls n m x) ≡ true
+decl_lawful : (n m : ℕ) (x : Decl) → are_decl_parts_lawful x ≡ true → list_all are_decl_parts_lawful (decl_decls n m x) ≡ true
 decl_lawful n m (d.Template t) h =
     let q = both_true (list_all item_test t.items) (is_lawful t.give.e) h in
-    together is_lawful_decl (map d.Function (body_functions m t.items)) _ (functions_lawful _ (body_lawful_functions m t.items q.0)) (two (two (body_lawful_items 0 m t.items q.0) q.1) refl)
+    together are_decl_parts_lawful (map d.Function (body_functions m t.items)) _ (functions_lawful _ (body_lawful_functions m t.items q.0)) (two (two (body_lawful_items 0 m t.items q.0) q.1) refl)
 decl_lawful n m (d.Function f) h = two h refl
 decl_lawful n m (d.Item i) h =
-    together is_lawful_decl (map d.Function (form_functions m i.form)) _ (functions_lawful _ (form_lawful_functions m i.form h)) (items_lawful (form_items i.at n m i.form) (form_lawful_items i.at n m i.form h))
+    together are_decl_parts_lawful (map d.Function (form_functions m i.form)) _ (functions_lawful _ (form_lawful_functions m i.form h)) (items_lawful (form_items i.at n m i.form) (form_lawful_items i.at n m i.form h))
 
-decls_lawful : (n m : ℕ) (ds : List Decl) → list_all is_lawful_decl ds ≡ true → list_all is_lawful_decl (graph_decls n m ds) ≡ true
+decls_lawful : (n m : ℕ) (ds : List Decl) → list_all are_decl_parts_lawful ds ≡ true → list_all are_decl_parts_lawful (graph_decls n m ds) ≡ true
 decls_lawful n m [] h = refl
 decls_lawful n m (x ∷ xs) h =
-    let q = both_true (is_lawful_decl x) (list_all is_lawful_decl xs) h in
-    together is_lawful_decl (decl_decls n m x) _ (decl_lawful n m x q.0) (decls_lawful (n + decl_hidden x) (m + decl_hidden_functions x) xs q.1)
+    let q = both_true (are_decl_parts_lawful x) (list_all are_decl_parts_lawful xs) h in
+    together are_decl_parts_lawful (decl_decls n m x) _ (decl_lawful n m x q.0) (decls_lawful (n + decl_hidden x) (m + decl_hidden_functions x) xs q.1)
 
 pub lawful_kept : (f : File) → has_lawful_parts f ≡ true → has_lawful_parts (expanded f) ≡ true
 lawful_kept f h =
-    let q = both_true (list_all is_lawful_decl f.graph.decls) (list_all is_lawful_sender f.senders) h in
+    let q = both_true (list_all are_decl_parts_lawful f.graph.decls) (list_all are_sender_parts_lawful f.senders) h in
     two (decls_lawful 0 0 f.graph.decls q.0) q.1

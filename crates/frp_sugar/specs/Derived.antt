@@ -30,10 +30,10 @@ is_core_form _ = true
 abbrev pub are_core_items : List Item → Bool
 are_core_items = list_all (λ i. is_core_form i.form)
 
-abbrev pub is_core_decl : Decl → Bool
-is_core_decl (d.Template t) = are_core_items t.items
-is_core_decl (d.Function f) = true
-is_core_decl (d.Item i) = is_core_form i.form
+abbrev pub has_no_derived_form : Decl → Bool
+has_no_derived_form (d.Template t) = are_core_items t.items
+has_no_derived_form (d.Function f) = true
+has_no_derived_form (d.Item i) = is_core_form i.form
 
 abbrev pub is_core_file : File → Bool
-is_core_file f = list_all is_core_decl f.graph.decls
+is_core_file f = list_all has_no_derived_form f.graph.decls

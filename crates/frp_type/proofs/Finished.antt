@@ -2,7 +2,7 @@
 use Rattle.std.proofs.Common.{◌≡◌, ℕ, true, List, [], ◌∷◌, ◌++◌, map, None, Ok, refl, sym, ap, ◌∙◌, subst}
 use Rattle.std.proofs.lemmas.List.{map-append}
 use Rattle.frp_base.specs.declared.name.Name.{Name}
-use Rattle.frp_expr.specs.Raw.{Outcome, ◌>>=◌}
+use Rattle.frp_expr.specs.Raw.{ExprOutcome, ◌>>=◌}
 use Rattle.frp_file.specs.declared.file.Decl.{Decl}
 use Rattle.frp_file.specs.declared.file.Decl.TheVariants as d
 use Rattle.frp_file.specs.declared.file.File.{File}
@@ -17,7 +17,7 @@ use Rattle.frp_graph.specs.TypedProg.{IsTypedProg}
 use Rattle.frp_type.specs.Core.{is_core}
 use Rattle.frp_type.specs.Known.{Known, nothing, shape_typing, all_declared}
 use Rattle.frp_type.specs.Faults.{all_tied, listened, scripted, checked}
-use Rattle.frp_type.specs.Meaning.{after, known_after, each, or_int, line_shape, item_lines, lines_of, ties_of, prog_of, labels_from, references_from, node_named, sent_over, typed_by, meaning}
+use Rattle.frp_type.specs.Meaning.{known_with, known_after, each, or_int, line_shape, item_lines, lines_of, ties_of, prog_of, labels_from, references_from, node_named, sent_over, typed_by, meaning}
 use Rattle.frp_type.specs.States.{known_of, Holds, tie_shape, tie_line, prog_in, IsTypedFile}
 use Rattle.frp_type.specs.declared.state.State.{State}
 use Rattle.frp_type.specs.declared.typed.Label.{Label}
@@ -43,8 +43,8 @@ lines_tied ties k (d.Template x) = refl
 all_lines_tied : (ties : List (ℕ × ℕ)) (k : Known) (ds : List Decl) → each (lines_of ties) k ds ≡ map (tie_line ties) (each (lines_of []) k ds)
 all_lines_tied ties k [] = refl
 all_lines_tied ties k (x ∷ ds) =
-    ap (λ ls. ls ++ each (lines_of ties) (after k x) ds) (lines_tied ties k x) ∙ ap (λ ls. map (tie_line ties) (lines_of [] k x) ++ ls) (all_lines_tied ties (after k x) ds)
-    ∙ sym (map-append (tie_line ties) (lines_of [] k x) (each (lines_of []) (after k x) ds))
+    ap (λ ls. ls ++ each (lines_of ties) (known_with k x) ds) (lines_tied ties k x) ∙ ap (λ ls. map (tie_line ties) (lines_of [] k x) ++ ls) (all_lines_tied ties (known_with k x) ds)
+    ∙ sym (map-append (tie_line ties) (lines_of [] k x) (each (lines_of []) (known_with k x) ds))
 
 known_is : (ds : List Decl) (k m : Known) → all_declared k ds ≡ Ok m → known_after k ds ≡ m
 known_is [] k m e = ok_same e
@@ -65,10 +65,10 @@ pub finished : (f : File) (s : State) (prog : Prog) (labels : List Label) (liste
 finished f s prog labels listens scripts c h a b l r p q u w =
     let k : Known = known_of s in
     let fine : checked f ≡ Ok k =
-    ap (λ (o : Outcome Known). o >>= λ k. all_tied k.loops >>= λ _. listened k f.listens >>= λ _. scripted k f.senders >>= λ _. Ok k) a
-    ∙ ap (λ (o : Outcome (Unit {0})). o >>= λ _. listened k f.listens >>= λ _. scripted k f.senders >>= λ _. Ok k) b
-    ∙ ap (λ (o : Outcome (Unit {0})). o >>= λ _. scripted k f.senders >>= λ _. Ok k) l
-    ∙ ap (λ (o : Outcome (Unit {0})). o >>= λ _. Ok k) r in
+    ap (λ (o : ExprOutcome Known). o >>= λ k. all_tied k.loops >>= λ _. listened k f.listens >>= λ _. scripted k f.senders >>= λ _. Ok k) a
+    ∙ ap (λ (o : ExprOutcome (Unit {0})). o >>= λ _. listened k f.listens >>= λ _. scripted k f.senders >>= λ _. Ok k) b
+    ∙ ap (λ (o : ExprOutcome (Unit {0})). o >>= λ _. scripted k f.senders >>= λ _. Ok k) l
+    ∙ ap (λ (o : ExprOutcome (Unit {0})). o >>= λ _. Ok k) r in
     let means : record { prog = prog; labels = labels; listens = listens; scripts = scripts } ≡ meaning f =
     (λ i. record { prog = p i; labels = q i; listens = u i; scripts = w i }) ∙ ap (λ (g : Prog). record { prog = g; labels = labels_from 0 s.scope.names; listens = map (λ l. node_named k l.name) f.listens; scripts = map (λ x. map (sent_over k (references_from 0 s.scope.names)) x.sends) f.senders }) (prog_is f.graph.decls s h)
     ∙ ap (λ (m : Known). typed_by m f) (sym (known_is f.graph.decls nothing k a)) in

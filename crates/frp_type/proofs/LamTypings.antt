@@ -13,28 +13,28 @@ use Rattle.frp_expr.specs.Uses.{uses}
 use Rattle.frp_graph.specs.declared.prog.LineLam.{LineLam}
 use Rattle.frp_type.specs.Closed.{kept_number, renumbered, used_of}
 use Rattle.frp_type.specs.Known.{Known}
-use Rattle.frp_type.specs.Meaning.{meant, code, lam}
+use Rattle.frp_type.specs.Meaning.{body_expr, code, line_lam}
 use Rattle.frp_type.specs.States.{here}
 
 module _ (scope : Scope) (codes : List Expr) (vs : List Named) (e : Raw) (t : Typing) (is : IsTypingOf (record { names = scope.names ++ vs; funs = scope.funs }) e t) where
   abbrev k : Known
   k = here scope codes
 
-  stands : t.expr ≡ meant k (names_of vs) e
+  stands : t.expr ≡ body_expr k (names_of vs) e
   stands = is.stands_for ∙ ap (resolve (fun_names scope.funs) e) (map-append (λ (n : Named). n.0) scope.names vs)
 
-  kept : filter (λ i. nat_lt i (length scope.names)) t.used ≡ used_of (length scope.names) (length (names_of vs)) (meant k (names_of vs) e)
+  kept : filter (λ i. nat_lt i (length scope.names)) t.used ≡ used_of (length scope.names) (length (names_of vs)) (body_expr k (names_of vs) e)
   kept = ap (filter (λ i. nat_lt i (length scope.names))) (is.uses_these ∙ ap (λ n. uses n t.expr) lengths ∙ ap (uses (length scope.names + length (names_of vs))) stands) where
     lengths : length (scope.names ++ vs) ≡ length scope.names + length (names_of vs)
     lengths = length-append scope.names vs ∙ ap (λ n. length scope.names + n) (sym (length-map vs (λ (n : Named). n.0)))
 
   closing : renumbered (kept_number (length scope.names) (filter (λ i. nat_lt i (length scope.names)) t.used)) t.expr ≡ code k (names_of vs) e
-  closing = ap (λ us. renumbered (kept_number (length scope.names) us) t.expr) kept ∙ ap (renumbered (kept_number (length scope.names) (used_of (length scope.names) (length (names_of vs)) (meant k (names_of vs) e)))) stands
+  closing = ap (λ us. renumbered (kept_number (length scope.names) us) t.expr) kept ∙ ap (renumbered (kept_number (length scope.names) (used_of (length scope.names) (length (names_of vs)) (body_expr k (names_of vs) e)))) stands
 
 -- what is made of the typing, where the names and the typing are called otherwise
 module _ (scope : Scope) (codes : List Expr) (vs : List Named) (e : Raw) (t : Typing) (is : IsTypingOf (record { names = scope.names ++ vs; funs = scope.funs }) e t)
     (ns : List Named) (u : Typing) (same : ns ≡ scope.names) (known : u ≡ t) where
-  pub lam_made : (f : LineLam) → f ≡ record { code = length codes; kept = filter (λ i. nat_lt i (length ns)) u.used } → f ≡ lam (here scope codes) (names_of vs) e
+  pub lam_made : (f : LineLam) → f ≡ record { code = length codes; kept = filter (λ i. nat_lt i (length ns)) u.used } → f ≡ line_lam (here scope codes) (names_of vs) e
   lam_made f h = h ∙ ap (λ (ns : List Named). record { code = length codes; kept = filter (λ i. nat_lt i (length ns)) u.used }) same
       ∙ ap (λ (u : Typing). record { code = length codes; kept = filter (λ i. nat_lt i (length scope.names)) u.used }) known
       ∙ ap (λ us. record { code = length codes; kept = us }) (kept scope codes vs e t is)

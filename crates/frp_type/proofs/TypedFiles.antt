@@ -16,7 +16,7 @@ use Rattle.frp_expr.specs.declared.fault.TypeKind.TheVariants as kind
 use Rattle.frp_expr.specs.declared.raw.Raw.{Raw}
 use Rattle.frp_expr.specs.declared.raw.RawTy.{RawTy}
 use Rattle.frp_expr.specs.declared.raw.Spot.{Spot}
-use Rattle.frp_expr.specs.Raw.{Outcome, ◌>>=◌, written, typing, resolve}
+use Rattle.frp_expr.specs.Raw.{ExprOutcome, ◌>>=◌, type_written, typing, resolve}
 use Rattle.frp_expr.specs.Scope.{Named, Fun, names_of, types_of, fun_names, sigs_of}
 use Rattle.frp_expr.specs.Types.{is_type, given}
 use Rattle.frp_expr.specs.Typing.{Sig, type_in, has}
@@ -38,9 +38,9 @@ use Rattle.frp_graph.specs.declared.prog.LineShape.{LineShape}
 use Rattle.frp_graph.specs.declared.prog.LineShape.TheVariants as l
 use Rattle.frp_graph.specs.TypedProg.{IsTypedProg, is_node_line, is_tied, are_typed_lines, shape_type, sig_of, are_typed_funs, all_types}
 use Rattle.frp_type.specs.Core.{is_core, is_core_decl, is_core_item, is_core_sender}
-use Rattle.frp_type.specs.Known.{Known, nothing, is_new, shape_typing, lam_in, with_name, with_node, tying, loop_of, target_of, named, type_at, same_type, fault_if, item_known, params, fun_known, declared, all_declared}
+use Rattle.frp_type.specs.Known.{Known, nothing, unless_taken, shape_typing, lam_in, with_name, with_node, tying, loop_of, target_of, named, type_at, same_type, fault_if, item_known, params, fun_known, declared, all_declared}
 use Rattle.frp_type.specs.Faults.{checked, all_tied, listened, scripted}
-use Rattle.frp_type.specs.Meaning.{after, each, or_int, code, tied_to, line_shape, item_lines, lines_of, code_in, item_codes, codes_of, tie_in, item_ties, ties_of, fun_def, funs_of, prog_of, meaning}
+use Rattle.frp_type.specs.Meaning.{known_with, each, or_int, code, tied_to, line_shape, item_lines, lines_of, code_in, item_codes, codes_of, tie_in, item_ties, ties_of, fun_def, funs_of, prog_of, meaning}
 use Rattle.frp_type.proofs.WrittenTypes.{is_stream_type, stream_is_type, written_is_type}
 use Rattle.frp_type.proofs.TypedShapes.{bind_ok, ok_same, typed_shape}
 
@@ -95,13 +95,13 @@ tied_line sigs codes all ties k _ x e g = refl
 
 -- What a declaration without a fault adds.
 
-pub after_is : (k n : Known) (x : Decl) → declared k x ≡ Ok n → after k x ≡ n
-after_is k n x e = ap (λ (o : Outcome Known). unwrap_or (result_ok o) k) e
+pub after_is : (k n : Known) (x : Decl) → declared k x ≡ Ok n → known_with k x ≡ n
+after_is k n x e = ap (λ (o : ExprOutcome Known). unwrap_or (result_ok o) k) e
 
 pub step : (k m : Known) (x : Decl) (ds : List Decl) → all_declared k (x ∷ ds) ≡ Ok m → (n : Known) × (declared k x ≡ Ok n) × (all_declared n ds ≡ Ok m)
 step k m x ds e = bind_ok (declared k x) (λ n. all_declared n ds) m e
 
-or_int_is : (o : Outcome Ty) (a : Ty) → o ≡ Ok a → or_int o ≡ a
+or_int_is : (o : ExprOutcome Ty) (a : Ty) → o ≡ Ok a → or_int o ≡ a
 or_int_is o a e = ap or_int e
 
 -- Items.
@@ -111,15 +111,15 @@ with_type : (names : List Named) (n : Text) (x : Ty) → types_of (names ++ (n, 
 with_type names n x = map-append (λ (m : Named). m.1) names ((n, x) ∷ [])
 
 -- a sink without a fault: its type, and what is known after it
-pub sink_ok : (k m : Known) (n : Spot) (ty : RawTy) → item_known k (Sink n ty) ≡ Ok m → (a : Ty) × (written ty ≡ Ok a) × (with_name k n.text (t.Stream a) ≡ m)
+pub sink_ok : (k m : Known) (n : Spot) (ty : RawTy) → item_known k (Sink n ty) ≡ Ok m → (a : Ty) × (type_written ty ≡ Ok a) × (with_name k n.text (t.Stream a) ≡ m)
 sink_ok k m n ty e =
-    let p = bind_ok (is_new (names_of k.names) n) (λ _. written ty >>= λ a. Ok (with_name k n.text (t.Stream a))) m e in
-    let q = bind_ok (written ty) (λ a. Ok (with_name k n.text (t.Stream a))) m p.2 in
+    let p = bind_ok (unless_taken (names_of k.names) n) (λ _. type_written ty >>= λ a. Ok (with_name k n.text (t.Stream a))) m e in
+    let q = bind_ok (type_written ty) (λ a. Ok (with_name k n.text (t.Stream a))) m p.2 in
     (q.0, q.1, ok_same q.2)
 
 pub let_ok : (k m : Known) (n : Spot) (shape : RawShape) → item_known k (Let n shape) ≡ Ok m → (a : Ty) × (shape_typing k.funs k.names shape.form ≡ Ok a) × (with_node k n shape.form a ≡ m)
 let_ok k m n shape e =
-    let p = bind_ok (is_new (names_of k.names) n) (λ _. shape_typing k.funs k.names shape.form >>= λ a. Ok (with_node k n shape.form a)) m e in
+    let p = bind_ok (unless_taken (names_of k.names) n) (λ _. shape_typing k.funs k.names shape.form >>= λ a. Ok (with_node k n shape.form a)) m e in
     let q = bind_ok (shape_typing k.funs k.names shape.form) (λ a. Ok (with_node k n shape.form a)) m p.2 in
     (q.0, q.1, ok_same q.2)
 
@@ -131,13 +131,13 @@ tie_known k m l x e = let p = bind_ok (tying k l x) (λ ij. Ok (untie k ij.0)) m
 
 -- a function without a fault
 pub fun_ok : (k m : Known) (f : Function) → fun_known k f ≡ Ok m
-    → (kept : List Named) × (a : Ty) × (b : Ty) × (params [] f.kept ≡ Ok kept) × (written f.arg.ty ≡ Ok a) × (typing k.funs f.e (kept ++ (f.arg.name.text, a) ∷ []) ≡ Ok b)
+    → (kept : List Named) × (a : Ty) × (b : Ty) × (params [] f.kept ≡ Ok kept) × (type_written f.arg.ty ≡ Ok a) × (typing k.funs f.e (kept ++ (f.arg.name.text, a) ∷ []) ≡ Ok b)
     × (record k { funs = k.funs ++ (f.name.text, types_of kept, a, b) ∷ [] } ≡ m)
 fun_ok k m f e =
-    let p = bind_ok (is_new (fun_names k.funs) f.name) (λ _. params [] f.kept >>= λ kept. is_new (names_of kept) f.arg.name >>= λ _. written f.arg.ty >>= λ a. typing k.funs f.e (kept ++ (f.arg.name.text, a) ∷ []) >>= λ b. Ok (record k { funs = k.funs ++ (f.name.text, types_of kept, a, b) ∷ [] })) m e in
-    let q = bind_ok (params [] f.kept) (λ kept. is_new (names_of kept) f.arg.name >>= λ _. written f.arg.ty >>= λ a. typing k.funs f.e (kept ++ (f.arg.name.text, a) ∷ []) >>= λ b. Ok (record k { funs = k.funs ++ (f.name.text, types_of kept, a, b) ∷ [] })) m p.2 in
-    let r = bind_ok (is_new (names_of q.0) f.arg.name) (λ _. written f.arg.ty >>= λ a. typing k.funs f.e (q.0 ++ (f.arg.name.text, a) ∷ []) >>= λ b. Ok (record k { funs = k.funs ++ (f.name.text, types_of q.0, a, b) ∷ [] })) m q.2 in
-    let s = bind_ok (written f.arg.ty) (λ a. typing k.funs f.e (q.0 ++ (f.arg.name.text, a) ∷ []) >>= λ b. Ok (record k { funs = k.funs ++ (f.name.text, types_of q.0, a, b) ∷ [] })) m r.2 in
+    let p = bind_ok (unless_taken (fun_names k.funs) f.name) (λ _. params [] f.kept >>= λ kept. unless_taken (names_of kept) f.arg.name >>= λ _. type_written f.arg.ty >>= λ a. typing k.funs f.e (kept ++ (f.arg.name.text, a) ∷ []) >>= λ b. Ok (record k { funs = k.funs ++ (f.name.text, types_of kept, a, b) ∷ [] })) m e in
+    let q = bind_ok (params [] f.kept) (λ kept. unless_taken (names_of kept) f.arg.name >>= λ _. type_written f.arg.ty >>= λ a. typing k.funs f.e (kept ++ (f.arg.name.text, a) ∷ []) >>= λ b. Ok (record k { funs = k.funs ++ (f.name.text, types_of kept, a, b) ∷ [] })) m p.2 in
+    let r = bind_ok (unless_taken (names_of q.0) f.arg.name) (λ _. type_written f.arg.ty >>= λ a. typing k.funs f.e (q.0 ++ (f.arg.name.text, a) ∷ []) >>= λ b. Ok (record k { funs = k.funs ++ (f.name.text, types_of q.0, a, b) ∷ [] })) m q.2 in
+    let s = bind_ok (type_written f.arg.ty) (λ a. typing k.funs f.e (q.0 ++ (f.arg.name.text, a) ∷ []) >>= λ b. Ok (record k { funs = k.funs ++ (f.name.text, types_of q.0, a, b) ∷ [] })) m r.2 in
     let u = bind_ok (typing k.funs f.e (q.0 ++ (f.arg.name.text, s.0) ∷ [])) (λ b. Ok (record k { funs = k.funs ++ (f.name.text, types_of q.0, s.0, b) ∷ [] })) m s.2 in
     (q.0, s.0, u.0, q.1, s.1, u.1, ok_same u.2)
 
@@ -145,8 +145,8 @@ fun_ok k m f e =
 params_types : (ns : List Named) (ps : List Param) (ms : List Named) → list_all is_type (types_of ns) ≡ true → params ns ps ≡ Ok ms → list_all is_type (types_of ms) ≡ true
 params_types ns [] ms h e = subst (λ (ms : List Named). list_all is_type (types_of ms) ≡ true) (ok_same e) h
 params_types ns (p ∷ ps) ms h e =
-    let q = bind_ok (is_new (names_of ns) p.name) (λ _. written p.ty >>= λ a. params (ns ++ (p.name.text, a) ∷ []) ps) ms e in
-    let r = bind_ok (written p.ty) (λ a. params (ns ++ (p.name.text, a) ∷ []) ps) ms q.2 in
+    let q = bind_ok (unless_taken (names_of ns) p.name) (λ _. type_written p.ty >>= λ a. params (ns ++ (p.name.text, a) ∷ []) ps) ms e in
+    let r = bind_ok (type_written p.ty) (λ a. params (ns ++ (p.name.text, a) ∷ []) ps) ms q.2 in
     let more : list_all is_type (types_of (ns ++ (p.name.text, r.0) ∷ [])) ≡ true =
     ap (list_all is_type) (with_type ns p.name.text r.0) ∙ list_all-append is_type (types_of ns) (r.0 ∷ []) ∙ both _ _ h (both (is_type r.0) true (written_is_type p.ty r.0 r.1) refl) in
     params_types (ns ++ (p.name.text, r.0) ∷ []) ps ms more r.2
@@ -154,12 +154,12 @@ params_types ns (p ∷ ps) ms h e =
 -- The functions: what is known of them, and their definitions.
 
 -- the definition of a function without a fault
-def_is : (k : Known) (f : Function) (kept : List Named) (a b : Ty) → params [] f.kept ≡ Ok kept → written f.arg.ty ≡ Ok a → typing k.funs f.e (kept ++ (f.arg.name.text, a) ∷ []) ≡ Ok b
+def_is : (k : Known) (f : Function) (kept : List Named) (a b : Ty) → params [] f.kept ≡ Ok kept → type_written f.arg.ty ≡ Ok a → typing k.funs f.e (kept ++ (f.arg.name.text, a) ∷ []) ≡ Ok b
     → funs_of k (d.Function f) ≡ record { kept = types_of kept; arg = a; result = b; e = resolve (fun_names k.funs) f.e (names_of kept ++ f.arg.name.text ∷ []) } ∷ []
 def_is k f kept a b p q r =
-    ap (λ (o : Outcome (List Named)). fun_def k f (unwrap_or (result_ok o) []) ∷ []) p
-    ∙ ap (λ (o : Outcome Ty). record { kept = types_of kept; arg = or_int o; result = or_int (typing k.funs f.e (kept ++ (f.arg.name.text, or_int o) ∷ [])); e = resolve (fun_names k.funs) f.e (names_of kept ++ f.arg.name.text ∷ []) } ∷ []) q
-    ∙ ap (λ (o : Outcome Ty). record { kept = types_of kept; arg = a; result = or_int o; e = resolve (fun_names k.funs) f.e (names_of kept ++ f.arg.name.text ∷ []) } ∷ []) r
+    ap (λ (o : ExprOutcome (List Named)). fun_def k f (unwrap_or (result_ok o) []) ∷ []) p
+    ∙ ap (λ (o : ExprOutcome Ty). record { kept = types_of kept; arg = or_int o; result = or_int (typing k.funs f.e (kept ++ (f.arg.name.text, or_int o) ∷ [])); e = resolve (fun_names k.funs) f.e (names_of kept ++ f.arg.name.text ∷ []) } ∷ []) q
+    ∙ ap (λ (o : ExprOutcome Ty). record { kept = types_of kept; arg = a; result = or_int o; e = resolve (fun_names k.funs) f.e (names_of kept ++ f.arg.name.text ∷ []) } ∷ []) r
 
 -- what is known of functions after a declaration
 sigs_step : (k n : Known) (x : Decl) → declared k x ≡ Ok n → sigs_of n.funs ≡ sigs_of k.funs ++ map sig_of (funs_of k x)
@@ -183,13 +183,13 @@ funs_front k n (d.Function f) e h rest r =
     ap (λ ns. type_in (sigs_of k.funs) (resolve (fun_names k.funs) f.e ns) (types_of p.0 ++ p.1 ∷ [])) (sym (map-append (λ (m : Named). m.0) p.0 ((f.arg.name.text, p.1) ∷ [])))
     ∙ ap (type_in (sigs_of k.funs) (resolve (fun_names k.funs) f.e (names_of (p.0 ++ (f.arg.name.text, p.1) ∷ [])))) (sym (with_type p.0 f.arg.name.text p.1))
     ∙ sym (agrees k.funs f.e (p.0 ++ (f.arg.name.text, p.1) ∷ []) h) ∙ ap result_ok p.5 in
-    let after : sigs_of k.funs ++ record { kept = types_of p.0; arg = p.1; result = p.2 } ∷ [] ≡ sigs_of n.funs =
+    let known_with : sigs_of k.funs ++ record { kept = types_of p.0; arg = p.1; result = p.2 } ∷ [] ≡ sigs_of n.funs =
     sym (map-append (λ (g : Fun). record { kept = g.1; arg = g.2; result = g.3 }) k.funs ((f.name.text, types_of p.0, p.1, p.2) ∷ [])) ∙ ap (λ (m : Known). sigs_of m.funs) p.6 in
     ap (λ (ds : List FunDef). are_typed_funs (sigs_of k.funs) (ds ++ rest)) (def_is k f p.0 p.1 p.2 p.3 p.4 p.5)
     ∙ both _ (are_typed_funs (sigs_of k.funs ++ record { kept = types_of p.0; arg = p.1; result = p.2 } ∷ []) rest)
     (both (list_all is_type (types_of p.0) && is_type p.1) (has p.2 (type_in (sigs_of k.funs) (resolve (fun_names k.funs) f.e (names_of p.0 ++ f.arg.name.text ∷ [])) (types_of p.0 ++ p.1 ∷ [])))
     (both (list_all is_type (types_of p.0)) (is_type p.1) (params_types [] f.kept p.0 refl p.3) (written_is_type f.arg.ty p.1 p.4)) (has_it p.2 _ whole))
-    (ap (λ (ss : List Sig). are_typed_funs ss rest) after ∙ r)
+    (ap (λ (ss : List Sig). are_typed_funs ss rest) known_with ∙ r)
 funs_front k n (d.Item i) e h rest r = ap (λ (ss : List Sig). are_typed_funs ss rest) (sym (sigs_step k n (d.Item i) e ∙ append_nil (sigs_of k.funs))) ∙ r
 funs_front k n (d.Template x) e h rest r = absurd cc
 
@@ -199,8 +199,8 @@ funs_typed [] k m e h = refl
 funs_typed (x ∷ ds) k m e h =
     let s = step k m x ds e in
     let g = and_parts (is_core_decl x) (list_all is_core_decl ds) h in
-    let rest : are_typed_funs (sigs_of s.0.funs) (each funs_of (after k x) ds) ≡ true = subst (λ (n : Known). are_typed_funs (sigs_of s.0.funs) (each funs_of n ds) ≡ true) (sym (after_is k s.0 x s.1)) (funs_typed ds s.0 m s.2 g.1) in
-    funs_front k s.0 x s.1 g.0 (each funs_of (after k x) ds) rest
+    let rest : are_typed_funs (sigs_of s.0.funs) (each funs_of (known_with k x) ds) ≡ true = subst (λ (n : Known). are_typed_funs (sigs_of s.0.funs) (each funs_of n ds) ≡ true) (sym (after_is k s.0 x s.1)) (funs_typed ds s.0 m s.2 g.1) in
+    funs_front k s.0 x s.1 g.0 (each funs_of (known_with k x) ds) rest
 
 -- The lines.
 
@@ -276,7 +276,7 @@ ties_front ds n m k (d.Item i) e a rest g = front i.form e where
       let stays : (i : ℕ) (y : Ty) → slice_get (types_of k.names) i ≡ Some y → slice_get (types_of m.names) i ≡ Some y = λ i y h. name_stays ds n m i y a (ap (λ us. slice_get us i) same_names ∙ h) in
       ap_ties p.0 p.1 (pair_good (types_of k.names) (types_of m.names) p.0.1 p.0.0 stays q) where
         ap_ties : (ij : ℕ × ℕ) → tying k l x ≡ Ok ij → same_type (slice_get (types_of m.names) ij.1) (slice_get (types_of m.names) ij.0) ≡ true → GoodTies (types_of m.names) (tie_in (tying k l x) ++ rest)
-        ap_ties ij h s = subst (λ (o : Outcome (ℕ × ℕ)). GoodTies (types_of m.names) (tie_in o ++ rest)) (sym h) (s, g)
+        ap_ties ij h s = subst (λ (o : ExprOutcome (ℕ × ℕ)). GoodTies (types_of m.names) (tie_in o ++ rest)) (sym h) (s, g)
   front _ e = g
 ties_front ds n m k (d.Template x) e a rest g = g
 
@@ -284,7 +284,7 @@ pub ties_good : (ds : List Decl) (k m : Known) → all_declared k ds ≡ Ok m �
 ties_good [] k m e = tt
 ties_good (x ∷ ds) k m e =
     let s = step k m x ds e in
-    ties_front ds s.0 m k x s.1 s.2 (each ties_of (after k x) ds)
+    ties_front ds s.0 m k x s.1 s.2 (each ties_of (known_with k x) ds)
     (subst (λ (n : Known). GoodTies (types_of m.names) (each ties_of n ds)) (sym (after_is k s.0 x s.1)) (ties_good ds s.0 m s.2))
 
 module _ (sigs : List Sig) (codes : List Expr) (ties : List (ℕ × ℕ)) where
@@ -318,7 +318,7 @@ module _ (sigs : List Sig) (codes : List Expr) (ties : List (ℕ × ℕ)) where
       front_item : (i : ItemForm) → codes_of k x ≡ item_codes k i → item_known k i ≡ Ok n → is_core_item i ≡ true → are_typed_lines sigs codes [] all ts made (item_lines ties k i ++ rest) ≡ true
       front_item (Sink v ty) w e h =
           let p = sink_ok k n v ty e in
-          ap (λ a. are_typed_lines sigs codes [] all ts made (Node (t.Stream a) l.Sink ∷ rest)) (or_int_is (written ty) p.0 p.1)
+          ap (λ a. are_typed_lines sigs codes [] all ts made (Node (t.Stream a) l.Sink ∷ rest)) (or_int_is (type_written ty) p.0 p.1)
           ∙ one (t.Stream p.0) l.Sink made
           (ap (λ b. given (b && is_type (t.Stream p.0)) (t.Stream p.0)) (is_stream_type p.0) ∙ ap (λ b. given b (t.Stream p.0)) (stream_is_type p.0 (written_is_type ty p.0 p.1)))
           refl (ap (λ (m : Known). types_of m.names) (sym p.2) ∙ with_type k.names v.text (t.Stream p.0))
@@ -346,13 +346,13 @@ module _ (sigs : List Sig) (codes : List Expr) (ties : List (ℕ × ℕ)) where
   lines_typed (x ∷ ds) k m pre made e h s c n g =
       let st = step k m x ds e in
       let q = and_parts (is_core_decl x) (list_all is_core_decl ds) h in
-      let a : after k x ≡ st.0 = after_is k st.0 x st.1 in
-      let s2 : sigs ≡ sigs_of st.0.funs ++ map sig_of (each funs_of (after k x) ds) =
-      s ∙ ap (λ gs. sigs_of k.funs ++ gs) (map-append sig_of (funs_of k x) (each funs_of (after k x) ds)) ∙ sym (append_assoc (sigs_of k.funs) (map sig_of (funs_of k x)) (map sig_of (each funs_of (after k x) ds)))
-      ∙ ap (λ gs. gs ++ map sig_of (each funs_of (after k x) ds)) (sym (sigs_step k st.0 x st.1)) in
-      let c2 : codes ≡ (pre ++ codes_of k x) ++ each codes_of (after k x) ds = c ∙ sym (append_assoc pre (codes_of k x) (each codes_of (after k x) ds)) in
+      let a : known_with k x ≡ st.0 = after_is k st.0 x st.1 in
+      let s2 : sigs ≡ sigs_of st.0.funs ++ map sig_of (each funs_of (known_with k x) ds) =
+      s ∙ ap (λ gs. sigs_of k.funs ++ gs) (map-append sig_of (funs_of k x) (each funs_of (known_with k x) ds)) ∙ sym (append_assoc (sigs_of k.funs) (map sig_of (funs_of k x)) (map sig_of (each funs_of (known_with k x) ds)))
+      ∙ ap (λ gs. gs ++ map sig_of (each funs_of (known_with k x) ds)) (sym (sigs_step k st.0 x st.1)) in
+      let c2 : codes ≡ (pre ++ codes_of k x) ++ each codes_of (known_with k x) ds = c ∙ sym (append_assoc pre (codes_of k x) (each codes_of (known_with k x) ds)) in
       let n2 : length (pre ++ codes_of k x) ≡ st.0.codes = length-append pre (codes_of k x) ∙ ap (λ i. i + length (codes_of k x)) n ∙ sym (codes_step k st.0 x st.1) in
-      lines_front ds k st.0 m x st.1 st.2 (map sig_of (each funs_of k (x ∷ ds))) pre (each codes_of (after k x) ds) s c n g (each (lines_of ties) (after k x) ds)
+      lines_front ds k st.0 m x st.1 st.2 (map sig_of (each funs_of k (x ∷ ds))) pre (each codes_of (known_with k x) ds) s c n g (each (lines_of ties) (known_with k x) ds)
       (λ made. ap (λ (w : Known). are_typed_lines sigs codes [] (types_of m.names) (types_of st.0.names) made (each (lines_of ties) w ds)) a
       ∙ lines_typed ds st.0 m (pre ++ codes_of k x) made st.2 q.1
       (s2 ∙ ap (λ (w : Known). sigs_of st.0.funs ++ map sig_of (each funs_of w ds)) a) (c2 ∙ ap (λ (w : Known). (pre ++ codes_of k x) ++ each codes_of w ds) a) n2 g)
@@ -364,13 +364,13 @@ all_types_of : (sigs : List Sig) (codes : List Expr) (ties : List (ℕ × ℕ)) 
 all_types_of sigs codes ties [] k m e = ap (λ (m : Known). types_of m.names) (ok_same e)
 all_types_of sigs codes ties (x ∷ ds) k m e =
     let st = step k m x ds e in
-    front x refl (each (lines_of ties) (after k x) ds)
+    front x refl (each (lines_of ties) (known_with k x) ds)
     (ap (λ (w : Known). all_types sigs codes [] (types_of st.0.names) (each (lines_of ties) w ds)) (after_is k st.0 x st.1) ∙ all_types_of sigs codes ties ds st.0 m st.2) where
       front_item : (n : Known) (i : ItemForm) (rest : List Line3) → item_known k i ≡ Ok n → all_types sigs codes [] (types_of n.names) rest ≡ types_of m.names
           → all_types sigs codes [] (types_of k.names) (item_lines ties k i ++ rest) ≡ types_of m.names
       front_item n (Sink v ty) rest e q =
           let p = sink_ok k n v ty e in
-          ap (λ a. all_types sigs codes [] (types_of k.names ++ t.Stream a ∷ []) rest) (or_int_is (written ty) p.0 p.1)
+          ap (λ a. all_types sigs codes [] (types_of k.names ++ t.Stream a ∷ []) rest) (or_int_is (type_written ty) p.0 p.1)
           ∙ ap (λ us. all_types sigs codes [] us rest) (sym (ap (λ (m : Known). types_of m.names) (sym p.2) ∙ with_type k.names v.text (t.Stream p.0))) ∙ q
       front_item n (Let v shape) rest e q =
           let p = let_ok k n v shape e in
@@ -394,7 +394,7 @@ nodes_front _ ties k rest h = h
 
 nodes_only : (ties : List (ℕ × ℕ)) (ds : List Decl) (k : Known) → list_all is_node_line (each (lines_of ties) k ds) ≡ true
 nodes_only ties [] k = refl
-nodes_only ties (x ∷ ds) k = front x (each (lines_of ties) (after k x) ds) (nodes_only ties ds (after k x)) where
+nodes_only ties (x ∷ ds) k = front x (each (lines_of ties) (known_with k x) ds) (nodes_only ties ds (known_with k x)) where
   front : (x : Decl) (rest : List Line3) → list_all is_node_line rest ≡ true → list_all is_node_line (lines_of ties k x ++ rest) ≡ true
   front (d.Item i) rest h = nodes_front i.form ties k rest h
   front (d.Function f) rest h = h

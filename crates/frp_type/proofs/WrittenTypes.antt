@@ -6,7 +6,7 @@ use Rattle.frp_base.specs.declared.ty.Ty.TheOpen as u
 use Rattle.frp_base.specs.declared.ty.Ty.TheVariants as t
 use Rattle.frp_base.specs.declared.ty.Ty.TheFolds.{fold-roll-Ty}
 use Rattle.frp_expr.specs.Types.{type_kind, kind_step, is_type, is_plain, given}
-use Rattle.frp_expr.specs.Raw.{Outcome, ◌>>=◌, or_fault, TyPart, item_by, ty_part, written, written_step}
+use Rattle.frp_expr.specs.Raw.{ExprOutcome, ◌>>=◌, or_fault, TyPart, item_by, ty_part, type_written, written_step}
 use Rattle.frp_expr.specs.declared.fault.TypeKind.TheVariants as kind
 use Rattle.frp_expr.specs.declared.raw.RawTy.{RawTy, RawTy-F, roll-RawTy, fold-roll-RawTy, map-RawTy, ind-RawTy}
 use Rattle.frp_expr.specs.declared.raw.TyForm.{TyForm, TyForm-F, roll-TyForm, fold-TyForm, fold-roll-TyForm, map-TyForm}
@@ -53,10 +53,10 @@ cell_is_type a h = ap (λ (k : Bool × Bool). k.0) (kind_cell a) ∙ h
 both_true : (a b : Bool) → a ≡ true → b ≡ true → a && b ≡ true
 both_true a b h g = ap (λ c. c && b) h ∙ g
 
-abbrev form_written : TyForm → Outcome Ty
-form_written = fold-TyForm (Outcome Ty) TyPart written_step (λ r. record { at = r.at; ty = r.form })
+abbrev form_written : TyForm → ExprOutcome Ty
+form_written = fold-TyForm (ExprOutcome Ty) TyPart written_step (λ r. record { at = r.at; ty = r.form })
 
-abbrev Right : Outcome Ty → Type 0
+abbrev Right : ExprOutcome Ty → Type 0
 Right w = (a : Ty) → w ≡ Ok a → is_type a ≡ true
 
 abbrev SuchForm : Type 0
@@ -65,17 +65,17 @@ SuchForm = (f : TyForm) × Right (form_written f)
 abbrev SuchRaw : Type 0
 SuchRaw = (r : RawTy) × Right (ty_part r).ty
 
-bind_ok : {A B : Type 0} (o : Outcome A) (f : A → Outcome B) (x : B) → (o >>= f) ≡ Ok x → (a : A) × (o ≡ Ok a) × (f a ≡ Ok x)
+bind_ok : {A B : Type 0} (o : ExprOutcome A) (f : A → ExprOutcome B) (x : B) → (o >>= f) ≡ Ok x → (a : A) × (o ≡ Ok a) × (f a ≡ Ok x)
 bind_ok (Ok a) f x e = (a, refl, e)
 bind_ok (Err g) f x e = absurd cc
 
-ok_is : {A : Type 0} {x y : A} → ◌≡◌ {A = Outcome A} (Ok x) (Ok y) → x ≡ y
+ok_is : {A : Type 0} {x y : A} → ◌≡◌ {A = ExprOutcome A} (Ok x) (Ok y) → x ≡ y
 ok_is e = cc
 
-one_right : (w : Outcome Ty) (f : Ty → Ty) → Right w → ((a : Ty) → is_type a ≡ true → is_type (f a) ≡ true) → Right (w >>= λ p. Ok (f p))
+one_right : (w : ExprOutcome Ty) (f : Ty → Ty) → Right w → ((a : Ty) → is_type a ≡ true → is_type (f a) ≡ true) → Right (w >>= λ p. Ok (f p))
 one_right w f h g a e = let p = bind_ok w (λ p. Ok (f p)) a e in subst (λ (a : Ty). is_type a ≡ true) (ok_is p.2) (g p.0 (h p.0 p.1))
 
-two_right : (w v : Outcome Ty) (f : Ty → Ty → Ty) → Right w → Right v → ((a b : Ty) → is_type a ≡ true → is_type b ≡ true → is_type (f a b) ≡ true) → Right (w >>= λ p. v >>= λ q. Ok (f p q))
+two_right : (w v : ExprOutcome Ty) (f : Ty → Ty → Ty) → Right w → Right v → ((a b : Ty) → is_type a ≡ true → is_type b ≡ true → is_type (f a b) ≡ true) → Right (w >>= λ p. v >>= λ q. Ok (f p q))
 two_right w v f h k g a e =
     let p = bind_ok w (λ p. v >>= λ q. Ok (f p q)) a e in
     let q = bind_ok v (λ q. Ok (f p.0 q)) a p.2 in
@@ -92,7 +92,7 @@ list_right p a e =
     let s = right_plain p.at (is_plain r.0) r.0 q.0 r.2 in
     subst (λ (a : Ty). is_type a ≡ true) (ok_is q.2) (ap (λ (k : Bool × Bool). k.0) (kind_list q.0) ∙ ap is_plain (sym s.1) ∙ s.0)
 
-written_layer : (l : TyForm-F SuchForm SuchRaw) → Right (written_step (map-TyForm TyForm RawTy (Outcome Ty) TyPart form_written ty_part (map-TyForm SuchForm SuchRaw TyForm RawTy (λ s. s.0) (λ s. s.0) l)))
+written_layer : (l : TyForm-F SuchForm SuchRaw) → Right (written_step (map-TyForm TyForm RawTy (ExprOutcome Ty) TyPart form_written ty_part (map-TyForm SuchForm SuchRaw TyForm RawTy (λ s. s.0) (λ s. s.0) l)))
 written_layer y.Int a e = subst (λ (a : Ty). is_type a ≡ true) (ok_is e) (ap (λ (k : Bool × Bool). k.0) (ap type_kind (sym t.rolls-Int) ∙ fold-roll-Ty (Bool × Bool) kind_step u.Int))
 written_layer y.Bool a e = subst (λ (a : Ty). is_type a ≡ true) (ok_is e) (ap (λ (k : Bool × Bool). k.0) (ap type_kind (sym t.rolls-Bool) ∙ fold-roll-Ty (Bool × Bool) kind_step u.Bool))
 written_layer y.Text a e = subst (λ (a : Ty). is_type a ≡ true) (ok_is e) (ap (λ (k : Bool × Bool). k.0) (ap type_kind (sym t.rolls-Text) ∙ fold-roll-Ty (Bool × Bool) kind_step u.Text))
@@ -105,14 +105,14 @@ written_layer (y.Fun p q) a e = two_right (ty_part p.0).ty (ty_part q.0).ty t.Fu
 form_rolled : (l : TyForm-F SuchForm SuchRaw) → let f : TyForm = roll-TyForm (map-TyForm SuchForm SuchRaw TyForm RawTy (λ s. s.0) (λ s. s.0) l) in Right (form_written f)
 form_rolled l =
     let m : TyForm-F TyForm RawTy = map-TyForm SuchForm SuchRaw TyForm RawTy (λ s. s.0) (λ s. s.0) l in
-    subst Right (sym (fold-roll-TyForm (Outcome Ty) TyPart written_step (λ r. record { at = r.at; ty = r.form }) m)) (written_layer l)
+    subst Right (sym (fold-roll-TyForm (ExprOutcome Ty) TyPart written_step (λ r. record { at = r.at; ty = r.form }) m)) (written_layer l)
 
 raw_rolled : (l : RawTy-F SuchForm SuchRaw) → let r : RawTy = roll-RawTy (map-RawTy SuchForm SuchRaw TyForm RawTy (λ s. s.0) (λ s. s.0) l) in Right (ty_part r).ty
 raw_rolled l =
     let m : RawTy-F TyForm RawTy = map-RawTy SuchForm SuchRaw TyForm RawTy (λ s. s.0) (λ s. s.0) l in
-    subst (λ (p : TyPart). Right p.ty) (sym (fold-roll-RawTy (Outcome Ty) TyPart written_step (λ r. record { at = r.at; ty = r.form }) m)) l.form.1
+    subst (λ (p : TyPart). Right p.ty) (sym (fold-roll-RawTy (ExprOutcome Ty) TyPart written_step (λ r. record { at = r.at; ty = r.form }) m)) l.form.1
 
-pub written_is_type : (r : RawTy) (a : Ty) → written r ≡ Ok a → is_type a ≡ true
+pub written_is_type : (r : RawTy) (a : Ty) → type_written r ≡ Ok a → is_type a ≡ true
 written_is_type = ind-RawTy (λ f. Right (form_written f)) (λ r. Right (ty_part r).ty)
     (λ m l q. subst (λ (m : TyForm-F TyForm RawTy). Right (form_written (roll-TyForm m))) q (form_rolled l))
     (λ m l q. subst (λ (m : RawTy-F TyForm RawTy). Right (ty_part (roll-RawTy m)).ty) q (raw_rolled l))

@@ -12,7 +12,7 @@ use Rattle.frp_base.specs.Ty.{ty_eq}
 use Rattle.frp_expr.specs.Types.{item_type, given}
 use Rattle.frp_expr.specs.Typing.{◌>>=◌ as ◌>>?◌}
 use Rattle.frp_expr.specs.Scope.{text_eq, place_of, Named, Fun, names_of, types_of, fun_names}
-use Rattle.frp_expr.specs.Raw.{Outcome, ◌>>=◌, or_fault, part_of, written, typing}
+use Rattle.frp_expr.specs.Raw.{ExprOutcome, ◌>>=◌, or_fault, part_of, type_written, typing}
 use Rattle.frp_expr.specs.declared.fault.TypeKind.{TypeKind}
 use Rattle.frp_expr.specs.declared.fault.TypeKind.TheVariants as kind
 use Rattle.frp_expr.specs.declared.raw.Raw.{Raw}
@@ -40,12 +40,12 @@ abbrev pub nothing : Known
 nothing = record { funs = []; names = []; codes = 0; loops = [] }
 
 -- a fault, where the test holds
-abbrev pub fault_if : Bool → ℕ → TypeKind → Outcome (Unit {0})
+abbrev pub fault_if : Bool → ℕ → TypeKind → ExprOutcome (Unit {0})
 fault_if b at k = if b then Err (record { place = at; kind = k }) else Ok tt
 
 -- a name that is not among these yet
-abbrev pub is_new : List Text → Spot → Outcome (Unit {0})
-is_new names n = fault_if (list_any (λ m. text_eq m n.text) names) n.at kind.Twice
+abbrev pub unless_taken : List Text → Spot → ExprOutcome (Unit {0})
+unless_taken names n = fault_if (list_any (λ m. text_eq m n.text) names) n.at kind.Twice
 
 -- Shapes.
 
@@ -58,29 +58,29 @@ abbrev pub fun_parts : Ty → Option (Ty × Ty)
 fun_parts x = fun_in (out-Ty x)
 
 -- what an operand's type over these names is seen as, where it is right in its place
-abbrev pub seen : {A : Type 0} → List Fun → List Named → (Ty → Option A) → Raw → Outcome A
-seen funs names right r = typing funs r names >>= λ x. or_fault (part_of funs r).at kind.Type (right x)
+abbrev pub operand_seen : {A : Type 0} → List Fun → List Named → (Ty → Option A) → Raw → ExprOutcome A
+operand_seen funs names right r = typing funs r names >>= λ x. or_fault (part_of funs r).at kind.Type (right x)
 
 -- an operand of this type
-abbrev pub of_type : List Fun → List Named → Ty → Raw → Outcome Ty
-of_type funs names x = seen funs names (λ y. given (ty_eq y x) x)
+abbrev pub of_type : List Fun → List Named → Ty → Raw → ExprOutcome Ty
+of_type funs names x = operand_seen funs names (λ y. given (ty_eq y x) x)
 
 module _ (funs : List Fun) (names : List Named) where
   -- the type of what an operand that is a stream, or a cell, holds
-  abbrev pub stream : Raw → Outcome Ty
-  stream = seen funs names stream_item
+  abbrev pub stream : Raw → ExprOutcome Ty
+  stream = operand_seen funs names stream_item
 
-  abbrev pub cell : Raw → Outcome Ty
-  cell = seen funs names cell_item
+  abbrev pub cell : Raw → ExprOutcome Ty
+  cell = operand_seen funs names cell_item
 
   -- the type of an expression with variables
-  abbrev pub over : List Named → Raw → Outcome Ty
+  abbrev pub over : List Named → Raw → ExprOutcome Ty
   over vars r = typing funs r (names ++ vars)
 
   -- The type of the node of a written core shape, or the shape's first fault. No template is declared yet.
-  abbrev pub shape_typing : ShapeForm → Outcome Ty
+  abbrev pub shape_typing : ShapeForm → ExprOutcome Ty
   shape_typing (Never ty) = do
-    a ← written ty
+    a ← type_written ty
     Ok (t.Stream a)
   shape_typing (Constant e) = do
     a ← typing funs e names
@@ -108,7 +108,7 @@ module _ (funs : List Fun) (names : List Named) where
     d ← over ((x.text, a) ∷ (y.text, b) ∷ []) e
     Ok (t.Stream d)
   shape_typing (Split s) = do
-    a ← seen funs names (λ x. stream_item x >>? item_type) s
+    a ← operand_seen funs names (λ x. stream_item x >>? item_type) s
     Ok (t.Stream a)
   shape_typing (Updates c) = do
     a ← cell c
@@ -117,24 +117,24 @@ module _ (funs : List Fun) (names : List Named) where
     a ← cell c
     Ok (t.Stream a)
   shape_typing (Loops ty) = do
-    a ← written ty
+    a ← type_written ty
     Ok (t.Stream a)
   shape_typing (Loopc ty) = do
-    a ← written ty
+    a ← type_written ty
     Ok (t.Cell a)
   shape_typing (Hold e s) = do
     a ← typing funs e names
     _ ← of_type funs names (t.Stream a) s
     Ok (t.Cell a)
   shape_typing (Apply cf ca) = do
-    f ← seen funs names (λ x. cell_item x >>? fun_parts) cf
+    f ← operand_seen funs names (λ x. cell_item x >>? fun_parts) cf
     _ ← of_type funs names (t.Cell f.0) ca
     Ok (t.Cell f.1)
   shape_typing (Switchs c) = do
-    a ← seen funs names (λ x. cell_item x >>? stream_item) c
+    a ← operand_seen funs names (λ x. cell_item x >>? stream_item) c
     Ok (t.Stream a)
   shape_typing (Switchc c) = do
-    a ← seen funs names (λ x. cell_item x >>? cell_item) c
+    a ← operand_seen funs names (λ x. cell_item x >>? cell_item) c
     Ok (t.Cell a)
   shape_typing (Execute s template kept) = do
     _ ← stream s
@@ -170,7 +170,7 @@ with_node k n shape x = record {
 }
 
 -- the position of a name of the body
-abbrev pub named : Known → Spot → Outcome ℕ
+abbrev pub named : Known → Spot → ExprOutcome ℕ
 named k n = or_fault n.at kind.Unknown (place_of n.text (names_of k.names))
 
 -- whether a loop at this position is not tied yet
@@ -186,33 +186,33 @@ same_type (Some x) (Some y) = ty_eq x y
 same_type _ _ = false
 
 -- the position of a loop that is not tied yet
-abbrev pub loop_of : Known → Spot → Outcome ℕ
+abbrev pub loop_of : Known → Spot → ExprOutcome ℕ
 loop_of k l = do
   i ← named k l
   _ ← fault_if (not (is_untied k i)) l.at kind.Tied
   Ok i
 
 -- the position of a name of the type of position i
-abbrev pub target_of : Known → Spot → ℕ → Outcome ℕ
+abbrev pub target_of : Known → Spot → ℕ → ExprOutcome ℕ
 target_of k x i = do
   j ← named k x
   _ ← fault_if (not (same_type (type_at k j) (type_at k i))) x.at kind.Type
   Ok j
 
 -- a loop and what it is tied to
-abbrev pub tying : Known → Spot → Spot → Outcome (ℕ × ℕ)
+abbrev pub tying : Known → Spot → Spot → ExprOutcome (ℕ × ℕ)
 tying k l x = do
   i ← loop_of k l
   j ← target_of k x i
   Ok (i, j)
 
-abbrev pub item_known : Known → ItemForm → Outcome Known
+abbrev pub item_known : Known → ItemForm → ExprOutcome Known
 item_known k (Sink n ty) = do
-  _ ← is_new (names_of k.names) n
-  a ← written ty
+  _ ← unless_taken (names_of k.names) n
+  a ← type_written ty
   Ok (with_name k n.text (t.Stream a))
 item_known k (Let n shape) = do
-  _ ← is_new (names_of k.names) n
+  _ ← unless_taken (names_of k.names) n
   a ← shape_typing k.funs k.names shape.form
   Ok (with_node k n shape.form a)
 item_known k (Tie l x) = do
@@ -223,29 +223,29 @@ item_known k _ = Ok k
 -- Functions.
 
 -- names after these with their written types
-abbrev pub params : List Named → List Param → Outcome (List Named)
+abbrev pub params : List Named → List Param → ExprOutcome (List Named)
 params ns [] = Ok ns
 params ns (p ∷ ps) = do
-  _ ← is_new (names_of ns) p.name
-  a ← written p.ty
+  _ ← unless_taken (names_of ns) p.name
+  a ← type_written p.ty
   params (ns ++ (p.name.text, a) ∷ []) ps
 
 -- the last of these is the argument's
-abbrev pub fun_known : Known → Function → Outcome Known
+abbrev pub fun_known : Known → Function → ExprOutcome Known
 fun_known k f = do
-  _ ← is_new (fun_names k.funs) f.name
+  _ ← unless_taken (fun_names k.funs) f.name
   kept ← params [] f.kept
-  _ ← is_new (names_of kept) f.arg.name
-  a ← written f.arg.ty
+  _ ← unless_taken (names_of kept) f.arg.name
+  a ← type_written f.arg.ty
   b ← typing k.funs f.e (kept ++ (f.arg.name.text, a) ∷ [])
   Ok (record k { funs = k.funs ++ (f.name.text, types_of kept, a, b) ∷ [] })
 
 -- Declarations: what is known after one, or its first fault. Templates come later.
-abbrev pub declared : Known → Decl → Outcome Known
+abbrev pub declared : Known → Decl → ExprOutcome Known
 declared k (d.Function f) = fun_known k f
 declared k (d.Item i) = item_known k i.form
 declared k (d.Template x) = Ok k
 
-abbrev pub all_declared : Known → List Decl → Outcome Known
+abbrev pub all_declared : Known → List Decl → ExprOutcome Known
 all_declared k [] = Ok k
 all_declared k (d ∷ ds) = declared k d >>= λ m. all_declared m ds

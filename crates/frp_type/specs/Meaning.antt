@@ -12,7 +12,7 @@ use Rattle.frp_expr.specs.declared.raw.Raw.{Raw}
 use Rattle.frp_expr.specs.declared.raw.Spot.{Spot}
 use Rattle.frp_expr.specs.Eval.{eval}
 use Rattle.frp_expr.specs.Scope.{number_of, Named, names_of, types_of, fun_names}
-use Rattle.frp_expr.specs.Raw.{Outcome, resolve, written, typing}
+use Rattle.frp_expr.specs.Raw.{ExprOutcome, resolve, type_written, typing}
 use Rattle.frp_file.specs.declared.file.File.{File}
 use Rattle.frp_file.specs.declared.file.Decl.{Decl}
 use Rattle.frp_file.specs.declared.file.Decl.TheVariants as d
@@ -39,35 +39,35 @@ use Rattle.frp_type.specs.declared.typed.Typed.{Typed}
 -- What declarations give, each over what is known before it.
 
 -- what is known after a declaration; where it is at fault, as before
-abbrev pub after : Known → Decl → Known
-after k d = unwrap_or (result_ok (declared k d)) k
+abbrev pub known_with : Known → Decl → Known
+known_with k d = unwrap_or (result_ok (declared k d)) k
 
 abbrev pub known_after : Known → List Decl → Known
 known_after k [] = k
-known_after k (d ∷ ds) = known_after (after k d) ds
+known_after k (d ∷ ds) = known_after (known_with k d) ds
 
 abbrev pub each : {A : Type 0} → (Known → Decl → List A) → Known → List Decl → List A
 each f k [] = []
-each f k (d ∷ ds) = f k d ++ each f (after k d) ds
+each f k (d ∷ ds) = f k d ++ each f (known_with k d) ds
 
 -- the type that was found; Int where there is a fault
-abbrev pub or_int : Outcome Ty → Ty
+abbrev pub or_int : ExprOutcome Ty → Ty
 or_int o = unwrap_or (result_ok o) t.Int
 
 -- the expression that an operand stands for, and an expression with variables
 abbrev pub operand : Known → Raw → Expr
 operand k r = resolve (fun_names k.funs) r (names_of k.names)
 
-abbrev pub meant : Known → List Text → Raw → Expr
-meant k vars r = resolve (fun_names k.funs) r (names_of k.names ++ vars)
+abbrev pub body_expr : Known → List Text → Raw → Expr
+body_expr k vars r = resolve (fun_names k.funs) r (names_of k.names ++ vars)
 
 -- A shape's expression over the values of the body that it uses and its variables, and those values' positions; the
 -- expression is the next of the program.
 abbrev pub code : Known → List Text → Raw → Expr
-code k vars r = closed (length k.names) (length vars) (meant k vars r)
+code k vars r = closed (length k.names) (length vars) (body_expr k vars r)
 
-abbrev pub lam : Known → List Text → Raw → LineLam
-lam k vars r = record { code = k.codes; kept = used_of (length k.names) (length vars) (meant k vars r) }
+abbrev pub line_lam : Known → List Text → Raw → LineLam
+line_lam k vars r = record { code = k.codes; kept = used_of (length k.names) (length vars) (body_expr k vars r) }
 
 -- what the loop at a position is tied to: the first of the ties says it; without one it is itself
 abbrev pub tied_to : List (ℕ × ℕ) → ℕ → ℕ
@@ -79,11 +79,11 @@ module _ (ties : List (ℕ × ℕ)) (k : Known) where
   abbrev pub line_shape : ShapeForm → LineShape
   line_shape (Never ty) = l.Never
   line_shape (Constant e) = l.Constant (operand k e)
-  line_shape (Map x s e) = l.Map (lam k (x.text ∷ []) e) (operand k s)
-  line_shape (Mapc x c e) = l.Mapc (lam k (x.text ∷ []) e) (operand k c)
-  line_shape (Filter x s e) = l.Filter (lam k (x.text ∷ []) e) (operand k s)
-  line_shape (Merge x y r s e) = l.Merge (lam k (x.text ∷ y.text ∷ []) e) (operand k r) (operand k s)
-  line_shape (Snapshot x y s c e) = l.Snapshot (lam k (x.text ∷ y.text ∷ []) e) (operand k s) (operand k c)
+  line_shape (Map x s e) = l.Map (line_lam k (x.text ∷ []) e) (operand k s)
+  line_shape (Mapc x c e) = l.Mapc (line_lam k (x.text ∷ []) e) (operand k c)
+  line_shape (Filter x s e) = l.Filter (line_lam k (x.text ∷ []) e) (operand k s)
+  line_shape (Merge x y r s e) = l.Merge (line_lam k (x.text ∷ y.text ∷ []) e) (operand k r) (operand k s)
+  line_shape (Snapshot x y s c e) = l.Snapshot (line_lam k (x.text ∷ y.text ∷ []) e) (operand k s) (operand k c)
   line_shape (Split s) = l.Split (operand k s)
   line_shape (Updates c) = l.Updates (operand k c)
   line_shape (Value c) = l.Value (operand k c)
@@ -97,7 +97,7 @@ module _ (ties : List (ℕ × ℕ)) (k : Known) where
 
   -- the lines of an item
   abbrev pub item_lines : ItemForm → List Line3
-  item_lines (Sink n ty) = Node (t.Stream (or_int (written ty))) l.Sink ∷ []
+  item_lines (Sink n ty) = Node (t.Stream (or_int (type_written ty))) l.Sink ∷ []
   item_lines (Let n shape) = Node (or_int (shape_typing k.funs k.names shape.form)) (line_shape shape.form) ∷ []
   item_lines _ = []
 
@@ -119,7 +119,7 @@ codes_of k (d.Item i) = item_codes k i.form
 codes_of k _ = []
 
 -- the loop of a tie and what it is tied to
-abbrev pub tie_in : Outcome (ℕ × ℕ) → List (ℕ × ℕ)
+abbrev pub tie_in : ExprOutcome (ℕ × ℕ) → List (ℕ × ℕ)
 tie_in (Ok ij) = ij ∷ []
 tie_in (Err f) = []
 
@@ -135,8 +135,8 @@ ties_of k _ = []
 abbrev pub fun_def : Known → Function → List Named → FunDef
 fun_def k f kept = record {
   kept = types_of kept;
-  arg = or_int (written f.arg.ty);
-  result = or_int (typing k.funs f.e (kept ++ (f.arg.name.text, or_int (written f.arg.ty)) ∷ []));
+  arg = or_int (type_written f.arg.ty);
+  result = or_int (typing k.funs f.e (kept ++ (f.arg.name.text, or_int (type_written f.arg.ty)) ∷ []));
   e = resolve (fun_names k.funs) f.e (names_of kept ++ f.arg.name.text ∷ []);
 }
 

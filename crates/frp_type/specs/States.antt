@@ -28,8 +28,8 @@ abbrev pub known_of : State → Known
 known_of s = record { funs = s.scope.funs; names = s.scope.names; codes = length s.codes; loops = s.loops }
 
 -- the state with a node more: its name with its type, and its line
-abbrev pub with_line : State → Text → Ty → Line → State
-with_line s n x line = record {
+abbrev pub with_typed_line : State → Text → Ty → Line → State
+with_typed_line s n x line = record {
   scope = record { names = s.scope.names ++ (n, x) ∷ []; funs = s.scope.funs };
   loops = s.loops;
   lines = s.lines ++ Node line.ty line.shape ∷ [];

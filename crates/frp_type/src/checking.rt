@@ -3,7 +3,7 @@
 ghost use Rattle.std.specs.Prelude.{◌≡◌, ◌<◌, ◌≤◌, ◌^◌, [], ◌∷◌, length, map, IsTrue, IfOk, Err};
 ghost use Rattle.frp_expr.specs.declared.fault.TypeFault.{TypeFault as Found};
 ghost use Rattle.std.specs.List.{list_all};
-ghost use Rattle.frp_expr.specs.Gives.{Gives};
+ghost use Rattle.frp_expr.specs.Gives.{ExprGives};
 ghost use Rattle.frp_expr.specs.Raw.{is_lawful};
 ghost use Rattle.frp_type.specs.Core.{is_core, is_core_decl, is_core_sender};
 ghost use Rattle.frp_type.specs.Faults.{all_tied, listened, all_sent, scripted, checked};
@@ -63,7 +63,7 @@ pub fn check(alloc: Global, file: &File) -> Result<Typed, ExprStop>
 fn all_declared(alloc: Global, decls: &[Decl]) -> Result<State, ExprStop>
     requires core { IsTrue (list_all is_core_decl decls.now) }
     requires few { length decls.now < 2 ^ 32 }
-    ensures known { Gives known_of result (all_declared nothing decls.now) }
+    ensures known { ExprGives known_of result (all_declared nothing decls.now) }
     ensures holds { IfOk result (λ s. Holds s decls.now) }
     ensures few { IfOk result (λ s. length s.scope.funs ≤ length decls.now) }
 {
@@ -86,7 +86,7 @@ fn all_declared(alloc: Global, decls: &[Decl]) -> Result<State, ExprStop>
 
 /// Stops at the first loop that is not tied.
 fn all_tied(loops: &[Loop]) -> Result<(), ExprStop>
-    ensures { Gives (λ _. tt) result (all_tied loops.now) }
+    ensures { ExprGives (λ _. tt) result (all_tied loops.now) }
 {
     match loops {
         [first, ..] => stop(first.at, TypeKind::Untied),
@@ -96,7 +96,7 @@ fn all_tied(loops: &[Loop]) -> Result<(), ExprStop>
 
 /// The node of a name of the graph, or a fault.
 fn node_named(alloc: Global, state: &State, n: &Spot) -> Result<Name, ExprStop>
-    ensures fault { Gives (λ _. number_of n.now.text (names_of state.now.scope.names)) result (named (known_of state.now) n.now) }
+    ensures fault { ExprGives (λ _. number_of n.now.text (names_of state.now.scope.names)) result (named (known_of state.now) n.now) }
     ensures node { IfOk result (λ r. r ≡ node_named (known_of state.now) n.now) }
 {
     let position = named(state.scope.names.as_slice(), n)?;
@@ -105,7 +105,7 @@ fn node_named(alloc: Global, state: &State, n: &Spot) -> Result<Name, ExprStop>
 
 /// The nodes that are listened to, in order, or the first fault.
 fn listens(alloc: Global, state: &State, listens: &[Listen]) -> Result<Seq<Name>, ExprStop>
-    ensures fault { Gives (λ _. tt) result (listened (known_of state.now) listens.now) }
+    ensures fault { ExprGives (λ _. tt) result (listened (known_of state.now) listens.now) }
     ensures nodes { IfOk result (λ r. r ≡ map (λ l. node_named (known_of state.now) l.name) listens.now) }
 {
     let mut nodes = Seq::new(alloc);
@@ -119,7 +119,7 @@ fn listens(alloc: Global, state: &State, listens: &[Listen]) -> Result<Seq<Name>
 fn sent(alloc: Global, state: &State, references: &[Val], s: &RawSend) -> Result<Fact, ExprStop>
     requires lawful { IsTrue (is_lawful s.now.value) }
     requires funs { length state.now.scope.funs < 2 ^ 32 }
-    ensures fault { Gives (λ _. tt) result (all_sent (known_of state.now) (s.now ∷ [])) }
+    ensures fault { ExprGives (λ _. tt) result (all_sent (known_of state.now) (s.now ∷ [])) }
     ensures fact { IfOk result (λ r. r ≡ sent_over (known_of state.now) references.now s.now) }
 {
     let node = node_named(alloc, state, &s.name)?;
@@ -137,7 +137,7 @@ fn script(
 ) -> Result<Seq<Fact>, ExprStop>
     requires lawful { IsTrue (list_all (λ x. is_lawful x.value) sends.now) }
     requires funs { length state.now.scope.funs < 2 ^ 32 }
-    ensures fault { Gives (λ _. tt) result (all_sent (known_of state.now) sends.now) }
+    ensures fault { ExprGives (λ _. tt) result (all_sent (known_of state.now) sends.now) }
     ensures facts { IfOk result (λ r. r ≡ map (sent_over (known_of state.now) references.now) sends.now) }
 {
     let mut facts = Seq::new(alloc);
@@ -156,7 +156,7 @@ fn scripts(
 ) -> Result<Seq<Seq<Fact>>, ExprStop>
     requires lawful { IsTrue (list_all is_core_sender senders.now) }
     requires funs { length state.now.scope.funs < 2 ^ 32 }
-    ensures fault { Gives (λ _. tt) result (scripted (known_of state.now) senders.now) }
+    ensures fault { ExprGives (λ _. tt) result (scripted (known_of state.now) senders.now) }
     ensures scripts { IfOk result (λ r. r ≡ map (λ s. map (sent_over (known_of state.now) references.now) s.sends) senders.now) }
 {
     let mut scripts = Seq::new(alloc);

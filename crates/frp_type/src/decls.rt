@@ -1,7 +1,7 @@
 //! Declarations: what is known after each, and what it stands for.
 
 ghost use Rattle.std.specs.Prelude.{◌≡◌, ◌<◌, ◌^◌, [], ◌∷◌, length, not, slice_get, IsTrue, IfOk, OnOk};
-ghost use Rattle.frp_expr.specs.Gives.{Gives};
+ghost use Rattle.frp_expr.specs.Gives.{ExprGives};
 ghost use Rattle.frp_expr.specs.Raw.{is_lawful, typing};
 ghost use Rattle.frp_expr.specs.Scope.{types_of};
 ghost use Rattle.frp_expr.specs.TypeOf.{IsTypingOf};
@@ -9,7 +9,7 @@ ghost use Rattle.frp_file.specs.declared.file.ItemForm.TheVariants as form;
 ghost use Rattle.frp_type.specs.Core.{is_core_item, is_core_decl, is_core_shape};
 ghost use Rattle.frp_type.specs.Known.{params, fun_known, item_known, declared, is_loop, is_untied, fault_if, loop_of, target_of, same_type, tying};
 ghost use Rattle.frp_file.specs.declared.file.Decl.TheVariants as decl;
-ghost use Rattle.frp_type.specs.States.{known_of, with_line, with_fun, Adds};
+ghost use Rattle.frp_type.specs.States.{known_of, with_typed_line, with_fun, Adds};
 
 use crate::names::{is_untied, named, new_fun, new_name, without};
 use crate::shapes::{Line, shape_line};
@@ -24,7 +24,7 @@ use std::mem::replace;
 
 /// Adds a name with its written type, where it is new.
 fn param(alloc: Global, p: &Param, names: &mut Seq<(Text, Ty)>) -> Result<(), ExprStop>
-    ensures { Gives (λ _. names.new) result (params names.old (p.now ∷ [])) }
+    ensures { ExprGives (λ _. names.new) result (params names.old (p.now ∷ [])) }
 {
     new_name(names.as_slice(), &p.name)?;
     let text = p.name.text.copy()?;
@@ -35,7 +35,7 @@ fn param(alloc: Global, p: &Param, names: &mut Seq<(Text, Ty)>) -> Result<(), Ex
 
 /// Adds names with their written types, in order, where each is new.
 fn all_params(alloc: Global, ps: &[Param], names: &mut Seq<(Text, Ty)>) -> Result<(), ExprStop>
-    ensures { Gives (λ _. names.new) result (params names.old ps.now) }
+    ensures { ExprGives (λ _. names.new) result (params names.old ps.now) }
 {
     for p in ps {
         param(alloc, p, names)?;
@@ -45,7 +45,7 @@ fn all_params(alloc: Global, ps: &[Param], names: &mut Seq<(Text, Ty)>) -> Resul
 
 /// An input.
 fn sink(alloc: Global, state: &mut State, at: u64, n: &Spot, ty: &RawTy) -> Result<(), ExprStop>
-    ensures known { Gives (λ _. known_of state.new) result (item_known (known_of state.old) (form.Sink n.now ty.now)) }
+    ensures known { ExprGives (λ _. known_of state.new) result (item_known (known_of state.old) (form.Sink n.now ty.now)) }
     ensures adds { OnOk result (Adds state.old state.new (decl.Item (record { at = at; form = form.Sink n.now ty.now }))) }
 {
     new_name(state.scope.names.as_slice(), n)?;
@@ -62,7 +62,7 @@ fn sink(alloc: Global, state: &mut State, at: u64, n: &Spot, ty: &RawTy) -> Resu
 
 /// Adds a node of the body.
 fn add_node(state: &mut State, name: Text, ty: Boxed<Ty>, line: Line) -> Result<(), Memory>
-    ensures { OnOk result (state.new ≡ with_line state.old name ty line) }
+    ensures { OnOk result (state.new ≡ with_typed_line state.old name ty line) }
 {
     let Line { ty: node, shape } = line;
     state.lines.add(Line3::Node { ty: node, shape })?;
@@ -71,7 +71,7 @@ fn add_node(state: &mut State, name: Text, ty: Boxed<Ty>, line: Line) -> Result<
 
 /// Adds the node of a line.
 fn add_line(alloc: Global, state: &mut State, name: Text, line: Line) -> Result<(), Memory>
-    ensures { OnOk result (state.new ≡ with_line state.old name line.ty line) }
+    ensures { OnOk result (state.new ≡ with_typed_line state.old name line.ty line) }
 {
     let ty = type_copy(alloc, &line.ty)?;
     add_node(state, name, ty, line)
@@ -96,7 +96,7 @@ fn bound(
     requires core { IsTrue (is_core_shape shape.now.form) }
     requires funs { length state.old.scope.funs < 2 ^ 32 }
     requires codes { length state.old.codes < 2 ^ 32 }
-    ensures known { Gives (λ _. known_of state.new) result (item_known (known_of state.old) (form.Let n.now shape.now)) }
+    ensures known { ExprGives (λ _. known_of state.new) result (item_known (known_of state.old) (form.Let n.now shape.now)) }
     ensures adds { OnOk result (Adds state.old state.new (decl.Item (record { at = at; form = form.Let n.now shape.now }))) }
 {
     new_name(state.scope.names.as_slice(), n)?;
@@ -123,7 +123,7 @@ fn is_loop(shape: &ShapeForm) -> bool
 
 /// A loop that is tied.
 fn tie(alloc: Global, state: &mut State, at: u64, l: &Spot, x: &Spot) -> Result<(), ExprStop>
-    ensures known { Gives (λ _. known_of state.new) result (item_known (known_of state.old) (form.Tie l.now x.now)) }
+    ensures known { ExprGives (λ _. known_of state.new) result (item_known (known_of state.old) (form.Tie l.now x.now)) }
     ensures adds { OnOk result (Adds state.old state.new (decl.Item (record { at = at; form = form.Tie l.now x.now }))) }
 {
     let (from, to) = tying(state, l, x)?;
@@ -134,7 +134,7 @@ fn tie(alloc: Global, state: &mut State, at: u64, l: &Spot, x: &Spot) -> Result<
 
 /// The positions of a loop that is not tied yet, and of what it is tied to.
 fn tying(state: &State, l: &Spot, x: &Spot) -> Result<(u64, u64), ExprStop>
-    ensures { Gives (λ r. r) result (tying (known_of state.now) l.now x.now) }
+    ensures { ExprGives (λ r. r) result (tying (known_of state.now) l.now x.now) }
 {
     let from = loop_of(state, l)?;
     let to = target_of(state, x, from)?;
@@ -143,7 +143,7 @@ fn tying(state: &State, l: &Spot, x: &Spot) -> Result<(u64, u64), ExprStop>
 
 /// The position of a loop that is not tied yet.
 fn loop_of(state: &State, l: &Spot) -> Result<usize, ExprStop>
-    ensures place { Gives (λ r. r) result (loop_of (known_of state.now) l.now) }
+    ensures place { ExprGives (λ r. r) result (loop_of (known_of state.now) l.now) }
     ensures within { IfOk result (λ i. i < length state.now.scope.names) }
 {
     let position = named(state.scope.names.as_slice(), l)?;
@@ -162,7 +162,7 @@ fn is_tied(state: &State, position: usize) -> bool
 /// The position of a name of the type of this other one.
 fn target_of(state: &State, x: &Spot, from: usize) -> Result<usize, ExprStop>
     requires { from < length state.now.scope.names }
-    ensures { Gives (λ r. r) result (target_of (known_of state.now) x.now from) }
+    ensures { ExprGives (λ r. r) result (target_of (known_of state.now) x.now from) }
 {
     let names = state.scope.names.as_slice();
     let position = named(names, x)?;
@@ -182,7 +182,7 @@ fn have_one_type(names: &[(Text, Ty)], i: usize, j: usize) -> bool
 
 /// Stops at a fault of this kind where the test holds.
 fn fault_if(holds: bool, at: u64, kind: TypeKind) -> Result<(), ExprStop>
-    ensures { Gives (λ _. tt) result (fault_if holds at kind) }
+    ensures { ExprGives (λ _. tt) result (fault_if holds at kind) }
 {
     if holds { stop(at, kind) } else { Ok(()) }
 }
@@ -191,7 +191,7 @@ fn fault_if(holds: bool, at: u64, kind: TypeKind) -> Result<(), ExprStop>
 fn function(alloc: Global, state: &mut State, f: &Function) -> Result<(), ExprStop>
     requires core { IsTrue (is_lawful f.now.e) }
     requires funs { length state.old.scope.funs < 2 ^ 32 }
-    ensures known { Gives (λ _. known_of state.new) result (fun_known (known_of state.old) f.now) }
+    ensures known { ExprGives (λ _. known_of state.new) result (fun_known (known_of state.old) f.now) }
     ensures adds { OnOk result (Adds state.old state.new (decl.Function f.now)) }
 {
     defined(
@@ -217,7 +217,7 @@ fn defined(
 ) -> Result<(), ExprStop>
     requires core { IsTrue (is_lawful e.now) }
     requires funs { length state.old.scope.funs < 2 ^ 32 }
-    ensures known { Gives (λ _. known_of state.new) result (fun_known (known_of state.old) (record { at = at; name = name.now; kept = kept.now; arg = arg.now; e = e.now })) }
+    ensures known { ExprGives (λ _. known_of state.new) result (fun_known (known_of state.old) (record { at = at; name = name.now; kept = kept.now; arg = arg.now; e = e.now })) }
     ensures adds { OnOk result (Adds state.old state.new (decl.Function (record { at = at; name = name.now; kept = kept.now; arg = arg.now; e = e.now }))) }
 {
     new_fun(state.scope.funs.as_slice(), name)?;
@@ -244,7 +244,7 @@ fn over(
 ) -> Result<Boxed<Typing>, ExprStop>
     requires lawful { IsTrue (is_lawful e.now) }
     requires funs { length state.old.scope.funs < 2 ^ 32 }
-    ensures ty { Gives (λ t. t.ty) result (typing state.old.scope.funs e.now names) }
+    ensures ty { ExprGives (λ t. t.ty) result (typing state.old.scope.funs e.now names) }
     ensures typing { IfOk result (λ t. IsTypingOf (record { names = names; funs = state.old.scope.funs }) e.now t) }
     ensures state { OnOk result (state.new ≡ state.old) }
 {
@@ -297,7 +297,7 @@ fn item(alloc: Global, state: &mut State, item: &Item) -> Result<(), ExprStop>
     requires core { IsTrue (is_core_item item.now.form) }
     requires funs { length state.old.scope.funs < 2 ^ 32 }
     requires codes { length state.old.codes < 2 ^ 32 }
-    ensures known { Gives (λ _. known_of state.new) result (item_known (known_of state.old) item.now.form) }
+    ensures known { ExprGives (λ _. known_of state.new) result (item_known (known_of state.old) item.now.form) }
     ensures adds { OnOk result (Adds state.old state.new (decl.Item item.now)) }
 {
     match &item.form {
@@ -313,7 +313,7 @@ pub fn declare(alloc: Global, state: &mut State, decl: &Decl) -> Result<(), Expr
     requires core { IsTrue (is_core_decl decl.now) }
     requires funs { length state.old.scope.funs < 2 ^ 32 }
     requires codes { length state.old.codes < 2 ^ 32 }
-    ensures known { Gives (λ _. known_of state.new) result (declared (known_of state.old) decl.now) }
+    ensures known { ExprGives (λ _. known_of state.new) result (declared (known_of state.old) decl.now) }
     ensures adds { OnOk result (Adds state.old state.new decl.now) }
 {
     match decl {

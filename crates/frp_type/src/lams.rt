@@ -1,11 +1,11 @@
 //! Expressions of shapes, over their variables.
 
 ghost use Rattle.std.specs.Prelude.{◌≡◌, ◌<◌, ◌^◌, ◌++◌, [], ◌∷◌, length, filter, nat_lt, IsTrue, IfOk, OnOk};
-ghost use Rattle.frp_expr.specs.Gives.{Gives};
+ghost use Rattle.frp_expr.specs.Gives.{ExprGives};
 ghost use Rattle.frp_expr.specs.Raw.{is_lawful, typing};
 ghost use Rattle.frp_expr.specs.TypeOf.{IsTypingOf};
 ghost use Rattle.frp_type.specs.Closed.{kept_number, renumbered};
-ghost use Rattle.frp_type.specs.Meaning.{code, lam};
+ghost use Rattle.frp_type.specs.Meaning.{code, line_lam};
 ghost use Rattle.frp_type.specs.States.{here};
 
 use crate::closing::{closed, kept_below};
@@ -24,7 +24,7 @@ fn over_one(
 ) -> Result<Boxed<Typing>, ExprStop>
     requires lawful { IsTrue (is_lawful e.now) }
     requires funs { length scope.old.funs < 2 ^ 32 }
-    ensures ty { Gives (λ t. t.ty) result (typing scope.old.funs e.now (scope.old.names ++ (x.now, a) ∷ [])) }
+    ensures ty { ExprGives (λ t. t.ty) result (typing scope.old.funs e.now (scope.old.names ++ (x.now, a) ∷ [])) }
     ensures typing { IfOk result (λ t. IsTypingOf (record { names = scope.old.names ++ (x.now, a) ∷ []; funs = scope.old.funs }) e.now t) }
     ensures scope { OnOk result (scope.new ≡ scope.old) }
 {
@@ -48,7 +48,7 @@ fn over_two(
 ) -> Result<Boxed<Typing>, ExprStop>
     requires lawful { IsTrue (is_lawful e.now) }
     requires funs { length scope.old.funs < 2 ^ 32 }
-    ensures ty { Gives (λ t. t.ty) result (typing scope.old.funs e.now (scope.old.names ++ (x.now, a) ∷ (y.now, b) ∷ [])) }
+    ensures ty { ExprGives (λ t. t.ty) result (typing scope.old.funs e.now (scope.old.names ++ (x.now, a) ∷ (y.now, b) ∷ [])) }
     ensures typing { IfOk result (λ t. IsTypingOf (record { names = scope.old.names ++ (x.now, a) ∷ (y.now, b) ∷ []; funs = scope.old.funs }) e.now t) }
     ensures scope { OnOk result (scope.new ≡ scope.old) }
 {
@@ -89,8 +89,8 @@ pub fn lam_one(
     requires lawful { IsTrue (is_lawful e.now) }
     requires funs { length scope.old.funs < 2 ^ 32 }
     requires codes { length codes.old < 2 ^ 32 }
-    ensures ty { Gives (λ r. r.1) result (typing scope.old.funs e.now (scope.old.names ++ (x.now, a) ∷ [])) }
-    ensures stands { IfOk result (λ r. r.0 ≡ lam (here scope.old codes.old) (x.now ∷ []) e.now) }
+    ensures ty { ExprGives (λ r. r.1) result (typing scope.old.funs e.now (scope.old.names ++ (x.now, a) ∷ [])) }
+    ensures stands { IfOk result (λ r. r.0 ≡ line_lam (here scope.old codes.old) (x.now ∷ []) e.now) }
     ensures codes { OnOk result (codes.new ≡ codes.old ++ code (here scope.old codes.old) (x.now ∷ []) e.now ∷ []) }
     ensures scope { OnOk result (scope.new ≡ scope.old) }
 {
@@ -115,8 +115,8 @@ pub fn lam_two(
     requires lawful { IsTrue (is_lawful e.now) }
     requires funs { length scope.old.funs < 2 ^ 32 }
     requires codes { length codes.old < 2 ^ 32 }
-    ensures ty { Gives (λ r. r.1) result (typing scope.old.funs e.now (scope.old.names ++ (x.now, a) ∷ (y.now, b) ∷ [])) }
-    ensures stands { IfOk result (λ r. r.0 ≡ lam (here scope.old codes.old) (x.now ∷ y.now ∷ []) e.now) }
+    ensures ty { ExprGives (λ r. r.1) result (typing scope.old.funs e.now (scope.old.names ++ (x.now, a) ∷ (y.now, b) ∷ [])) }
+    ensures stands { IfOk result (λ r. r.0 ≡ line_lam (here scope.old codes.old) (x.now ∷ y.now ∷ []) e.now) }
     ensures codes { OnOk result (codes.new ≡ codes.old ++ code (here scope.old codes.old) (x.now ∷ y.now ∷ []) e.now ∷ []) }
     ensures scope { OnOk result (scope.new ≡ scope.old) }
 {

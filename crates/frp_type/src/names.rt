@@ -2,10 +2,10 @@
 
 ghost use Rattle.std.specs.Prelude.{◌≡◌, ◌<◌, ◌==◌, filter, not, length, IfOk};
 ghost use Rattle.std.specs.List.{list_any};
-ghost use Rattle.frp_expr.specs.Gives.{Gives};
+ghost use Rattle.frp_expr.specs.Gives.{ExprGives};
 ghost use Rattle.frp_expr.specs.Raw.{or_fault};
 ghost use Rattle.frp_expr.specs.Scope.{text_eq, place_of, names_of, fun_names};
-ghost use Rattle.frp_type.specs.Known.{is_new};
+ghost use Rattle.frp_type.specs.Known.{unless_taken};
 
 use crate::state::Loop;
 use frp_base::{Memory, Seq, Text, Ty};
@@ -14,7 +14,7 @@ use std::alloc::Global;
 
 /// Stops where a name is among these already.
 pub fn new_name(names: &[(Text, Ty)], n: &Spot) -> Result<(), ExprStop>
-    ensures { Gives (λ _. tt) result (is_new (names_of names.now) n.now) }
+    ensures { ExprGives (λ _. tt) result (unless_taken (names_of names.now) n.now) }
 {
     if is_declared(names, &n.text) {
         stop(n.at, TypeKind::Twice)
@@ -37,7 +37,7 @@ fn is_declared(names: &[(Text, Ty)], name: &Text) -> bool
 
 /// Stops where a function of this name is among these already.
 pub fn new_fun(funs: &[(Text, Seq<Ty>, Ty, Ty)], n: &Spot) -> Result<(), ExprStop>
-    ensures { Gives (λ _. tt) result (is_new (fun_names funs.now) n.now) }
+    ensures { ExprGives (λ _. tt) result (unless_taken (fun_names funs.now) n.now) }
 {
     if is_fun(funs, &n.text) {
         stop(n.at, TypeKind::Twice)
@@ -60,7 +60,7 @@ fn is_fun(funs: &[(Text, Seq<Ty>, Ty, Ty)], name: &Text) -> bool
 
 /// The position of a name of the body, or a fault.
 pub fn named(names: &[(Text, Ty)], n: &Spot) -> Result<usize, ExprStop>
-    ensures place { Gives (λ i. i) result (or_fault n.now.at TypeKind.Unknown (place_of n.now.text (names_of names.now))) }
+    ensures place { ExprGives (λ i. i) result (or_fault n.now.at TypeKind.Unknown (place_of n.now.text (names_of names.now))) }
     ensures within { IfOk result (λ i. i < length names.now) }
 {
     match place_of(names, &n.text) {

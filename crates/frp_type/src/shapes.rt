@@ -2,14 +2,14 @@
 
 ghost use Rattle.std.specs.Prelude.{◌≡◌, ◌<◌, ◌^◌, ◌++◌, [], ◌∷◌, length, IsTrue, IfOk, OnOk, IsErr, Ok, Err};
 ghost use Rattle.frp_base.specs.declared.ty.Ty.TheVariants as t;
-ghost use Rattle.frp_expr.specs.Gives.{Gives};
-ghost use Rattle.frp_expr.specs.Raw.{is_lawful, written};
+ghost use Rattle.frp_expr.specs.Gives.{ExprGives};
+ghost use Rattle.frp_expr.specs.Raw.{is_lawful, type_written};
 ghost use Rattle.frp_file.specs.declared.file.ShapeForm.TheVariants as form;
 ghost use Rattle.frp_type.specs.Core.{is_core_shape};
 ghost use Rattle.frp_expr.specs.Raw.{◌>>=◌ as ◌>>!◌};
 ghost use Rattle.frp_graph.specs.declared.prog.LineShape.TheVariants as line;
 ghost use Rattle.frp_graph.specs.TypedProg.{stream_item};
-ghost use Rattle.frp_type.specs.Known.{seen, shape_typing, lam_in};
+ghost use Rattle.frp_type.specs.Known.{operand_seen, shape_typing, lam_in};
 ghost use Rattle.frp_type.specs.Meaning.{line_shape, code_in};
 ghost use Rattle.frp_type.specs.States.{here};
 
@@ -35,7 +35,7 @@ pub struct Line {
 fn constant(alloc: Global, scope: &Scope, o: &Raw) -> Result<Line, ExprStop>
     requires o { IsTrue (is_lawful o.now) }
     requires funs { length scope.now.funs < 2 ^ 32 }
-    ensures ty { Gives (λ r. r.ty) result (shape_typing scope.now.funs scope.now.names (form.Constant o.now)) }
+    ensures ty { ExprGives (λ r. r.ty) result (shape_typing scope.now.funs scope.now.names (form.Constant o.now)) }
     ensures stands { IfOk result (λ r. r.shape ≡ line_shape [] (here scope.now []) (form.Constant o.now)) }
 {
     let (o, a) = operand(alloc, scope, o)?;
@@ -58,7 +58,7 @@ fn map(
     requires e { IsTrue (is_lawful e.now) }
     requires funs { length scope.old.funs < 2 ^ 32 }
     requires codes { length codes.old < 2 ^ 32 }
-    ensures ty { Gives (λ r. r.ty) result (shape_typing scope.old.funs scope.old.names (form.Map x.now s.now e.now)) }
+    ensures ty { ExprGives (λ r. r.ty) result (shape_typing scope.old.funs scope.old.names (form.Map x.now s.now e.now)) }
     ensures stands { IfOk result (λ r. r.shape ≡ line_shape [] (here scope.old codes.old) (form.Map x.now s.now e.now)) }
     ensures codes { OnOk result (codes.new ≡ codes.old ++ code_in (here scope.old codes.old) (lam_in (form.Map x.now s.now e.now))) }
     ensures scope { OnOk result (scope.new ≡ scope.old) }
@@ -84,7 +84,7 @@ fn mapc(
     requires e { IsTrue (is_lawful e.now) }
     requires funs { length scope.old.funs < 2 ^ 32 }
     requires codes { length codes.old < 2 ^ 32 }
-    ensures ty { Gives (λ r. r.ty) result (shape_typing scope.old.funs scope.old.names (form.Mapc x.now c.now e.now)) }
+    ensures ty { ExprGives (λ r. r.ty) result (shape_typing scope.old.funs scope.old.names (form.Mapc x.now c.now e.now)) }
     ensures stands { IfOk result (λ r. r.shape ≡ line_shape [] (here scope.old codes.old) (form.Mapc x.now c.now e.now)) }
     ensures codes { OnOk result (codes.new ≡ codes.old ++ code_in (here scope.old codes.old) (lam_in (form.Mapc x.now c.now e.now))) }
     ensures scope { OnOk result (scope.new ≡ scope.old) }
@@ -110,7 +110,7 @@ fn filter(
     requires e { IsTrue (is_lawful e.now) }
     requires funs { length scope.old.funs < 2 ^ 32 }
     requires codes { length codes.old < 2 ^ 32 }
-    ensures ty { Gives (λ r. r.ty) result (shape_typing scope.old.funs scope.old.names (form.Filter x.now s.now e.now)) }
+    ensures ty { ExprGives (λ r. r.ty) result (shape_typing scope.old.funs scope.old.names (form.Filter x.now s.now e.now)) }
     ensures stands { IfOk result (λ r. r.shape ≡ line_shape [] (here scope.old codes.old) (form.Filter x.now s.now e.now)) }
     ensures codes { OnOk result (codes.new ≡ codes.old ++ code_in (here scope.old codes.old) (lam_in (form.Filter x.now s.now e.now))) }
     ensures scope { OnOk result (scope.new ≡ scope.old) }
@@ -141,7 +141,7 @@ fn merge(
     requires e { IsTrue (is_lawful e.now) }
     requires funs { length scope.old.funs < 2 ^ 32 }
     requires codes { length codes.old < 2 ^ 32 }
-    ensures ty { Gives (λ r. r.ty) result (shape_typing scope.old.funs scope.old.names (form.Merge x.now y.now one.now other.now e.now)) }
+    ensures ty { ExprGives (λ r. r.ty) result (shape_typing scope.old.funs scope.old.names (form.Merge x.now y.now one.now other.now e.now)) }
     ensures stands { IfOk result (λ r. r.shape ≡ line_shape [] (here scope.old codes.old) (form.Merge x.now y.now one.now other.now e.now)) }
     ensures codes { OnOk result (codes.new ≡ codes.old ++ code_in (here scope.old codes.old) (lam_in (form.Merge x.now y.now one.now other.now e.now))) }
     ensures scope { OnOk result (scope.new ≡ scope.old) }
@@ -179,7 +179,7 @@ fn snapshot(
     requires e { IsTrue (is_lawful e.now) }
     requires funs { length scope.old.funs < 2 ^ 32 }
     requires codes { length codes.old < 2 ^ 32 }
-    ensures ty { Gives (λ r. r.ty) result (shape_typing scope.old.funs scope.old.names (form.Snapshot x.now y.now s.now c.now e.now)) }
+    ensures ty { ExprGives (λ r. r.ty) result (shape_typing scope.old.funs scope.old.names (form.Snapshot x.now y.now s.now c.now e.now)) }
     ensures stands { IfOk result (λ r. r.shape ≡ line_shape [] (here scope.old codes.old) (form.Snapshot x.now y.now s.now c.now e.now)) }
     ensures codes { OnOk result (codes.new ≡ codes.old ++ code_in (here scope.old codes.old) (lam_in (form.Snapshot x.now y.now s.now c.now e.now))) }
     ensures scope { OnOk result (scope.new ≡ scope.old) }
@@ -197,7 +197,7 @@ fn snapshot(
 fn split(alloc: Global, scope: &Scope, s: &Raw) -> Result<Line, ExprStop>
     requires s { IsTrue (is_lawful s.now) }
     requires funs { length scope.now.funs < 2 ^ 32 }
-    ensures ty { Gives (λ r. r.ty) result (shape_typing scope.now.funs scope.now.names (form.Split s.now)) }
+    ensures ty { ExprGives (λ r. r.ty) result (shape_typing scope.now.funs scope.now.names (form.Split s.now)) }
     ensures stands { IfOk result (λ r. r.shape ≡ line_shape [] (here scope.now []) (form.Split s.now)) }
 {
     let at = s.at;
@@ -213,7 +213,7 @@ fn split(alloc: Global, scope: &Scope, s: &Raw) -> Result<Line, ExprStop>
 fn updates(alloc: Global, scope: &Scope, c: &Raw) -> Result<Line, ExprStop>
     requires c { IsTrue (is_lawful c.now) }
     requires funs { length scope.now.funs < 2 ^ 32 }
-    ensures ty { Gives (λ r. r.ty) result (shape_typing scope.now.funs scope.now.names (form.Updates c.now)) }
+    ensures ty { ExprGives (λ r. r.ty) result (shape_typing scope.now.funs scope.now.names (form.Updates c.now)) }
     ensures stands { IfOk result (λ r. r.shape ≡ line_shape [] (here scope.now []) (form.Updates c.now)) }
 {
     let (c, a) = cell(alloc, scope, c)?;
@@ -227,7 +227,7 @@ fn updates(alloc: Global, scope: &Scope, c: &Raw) -> Result<Line, ExprStop>
 fn value(alloc: Global, scope: &Scope, c: &Raw) -> Result<Line, ExprStop>
     requires c { IsTrue (is_lawful c.now) }
     requires funs { length scope.now.funs < 2 ^ 32 }
-    ensures ty { Gives (λ r. r.ty) result (shape_typing scope.now.funs scope.now.names (form.Value c.now)) }
+    ensures ty { ExprGives (λ r. r.ty) result (shape_typing scope.now.funs scope.now.names (form.Value c.now)) }
     ensures stands { IfOk result (λ r. r.shape ≡ line_shape [] (here scope.now []) (form.Value c.now)) }
 {
     let (c, a) = cell(alloc, scope, c)?;
@@ -242,7 +242,7 @@ fn hold(alloc: Global, scope: &Scope, o: &Raw, s: &Raw) -> Result<Line, ExprStop
     requires o { IsTrue (is_lawful o.now) }
     requires s { IsTrue (is_lawful s.now) }
     requires funs { length scope.now.funs < 2 ^ 32 }
-    ensures ty { Gives (λ r. r.ty) result (shape_typing scope.now.funs scope.now.names (form.Hold o.now s.now)) }
+    ensures ty { ExprGives (λ r. r.ty) result (shape_typing scope.now.funs scope.now.names (form.Hold o.now s.now)) }
     ensures stands { IfOk result (λ r. r.shape ≡ line_shape [] (here scope.now []) (form.Hold o.now s.now)) }
 {
     let (o, a) = operand(alloc, scope, o)?;
@@ -259,7 +259,7 @@ fn apply(alloc: Global, scope: &Scope, cf: &Raw, ca: &Raw) -> Result<Line, ExprS
     requires cf { IsTrue (is_lawful cf.now) }
     requires ca { IsTrue (is_lawful ca.now) }
     requires funs { length scope.now.funs < 2 ^ 32 }
-    ensures ty { Gives (λ r. r.ty) result (shape_typing scope.now.funs scope.now.names (form.Apply cf.now ca.now)) }
+    ensures ty { ExprGives (λ r. r.ty) result (shape_typing scope.now.funs scope.now.names (form.Apply cf.now ca.now)) }
     ensures stands { IfOk result (λ r. r.shape ≡ line_shape [] (here scope.now []) (form.Apply cf.now ca.now)) }
 {
     let at = cf.at;
@@ -277,7 +277,7 @@ fn apply(alloc: Global, scope: &Scope, cf: &Raw, ca: &Raw) -> Result<Line, ExprS
 fn switchs(alloc: Global, scope: &Scope, c: &Raw) -> Result<Line, ExprStop>
     requires c { IsTrue (is_lawful c.now) }
     requires funs { length scope.now.funs < 2 ^ 32 }
-    ensures ty { Gives (λ r. r.ty) result (shape_typing scope.now.funs scope.now.names (form.Switchs c.now)) }
+    ensures ty { ExprGives (λ r. r.ty) result (shape_typing scope.now.funs scope.now.names (form.Switchs c.now)) }
     ensures stands { IfOk result (λ r. r.shape ≡ line_shape [] (here scope.now []) (form.Switchs c.now)) }
 {
     let at = c.at;
@@ -293,7 +293,7 @@ fn switchs(alloc: Global, scope: &Scope, c: &Raw) -> Result<Line, ExprStop>
 fn switchc(alloc: Global, scope: &Scope, c: &Raw) -> Result<Line, ExprStop>
     requires c { IsTrue (is_lawful c.now) }
     requires funs { length scope.now.funs < 2 ^ 32 }
-    ensures ty { Gives (λ r. r.ty) result (shape_typing scope.now.funs scope.now.names (form.Switchc c.now)) }
+    ensures ty { ExprGives (λ r. r.ty) result (shape_typing scope.now.funs scope.now.names (form.Switchc c.now)) }
     ensures stands { IfOk result (λ r. r.shape ≡ line_shape [] (here scope.now []) (form.Switchc c.now)) }
 {
     let at = c.at;
@@ -307,7 +307,7 @@ fn switchc(alloc: Global, scope: &Scope, c: &Raw) -> Result<Line, ExprStop>
 
 /// A stream that never fires.
 fn never(alloc: Global, ty: &RawTy) -> Result<Line, ExprStop>
-    ensures ty { Gives (λ r. r.ty) result (written ty.now >>! λ a. Ok (t.Stream a)) }
+    ensures ty { ExprGives (λ r. r.ty) result (type_written ty.now >>! λ a. Ok (t.Stream a)) }
     ensures stands { IfOk result (λ r. r.shape ≡ line.Never) }
 {
     let a = boxed_type(alloc, ty)?;
@@ -319,7 +319,7 @@ fn never(alloc: Global, ty: &RawTy) -> Result<Line, ExprStop>
 
 /// A loop of a stream, which is tied to itself until its tie comes.
 fn stream_loop(alloc: Global, scope: &Scope, ty: &RawTy) -> Result<Line, ExprStop>
-    ensures ty { Gives (λ r. r.ty) result (written ty.now >>! λ a. Ok (t.Stream a)) }
+    ensures ty { ExprGives (λ r. r.ty) result (type_written ty.now >>! λ a. Ok (t.Stream a)) }
     ensures stands { IfOk result (λ r. r.shape ≡ line.Loop (length scope.now.names)) }
 {
     let a = boxed_type(alloc, ty)?;
@@ -332,7 +332,7 @@ fn stream_loop(alloc: Global, scope: &Scope, ty: &RawTy) -> Result<Line, ExprSto
 
 /// A loop of a cell, which is tied to itself until its tie comes.
 fn cell_loop(alloc: Global, scope: &Scope, ty: &RawTy) -> Result<Line, ExprStop>
-    ensures ty { Gives (λ r. r.ty) result (written ty.now >>! λ a. Ok (t.Cell a)) }
+    ensures ty { ExprGives (λ r. r.ty) result (type_written ty.now >>! λ a. Ok (t.Cell a)) }
     ensures stands { IfOk result (λ r. r.shape ≡ line.Loop (length scope.now.names)) }
 {
     let a = boxed_type(alloc, ty)?;
@@ -347,7 +347,7 @@ fn cell_loop(alloc: Global, scope: &Scope, ty: &RawTy) -> Result<Line, ExprStop>
 fn execute(alloc: Global, scope: &Scope, s: &Raw, template: &Spot) -> Result<Line, ExprStop>
     requires s { IsTrue (is_lawful s.now) }
     requires funs { length scope.now.funs < 2 ^ 32 }
-    ensures ty { Gives (λ r. r.ty) result (seen scope.now.funs scope.now.names stream_item s.now >>! λ _. Err (record { place = template.now.at; kind = TypeKind.Unknown })) }
+    ensures ty { ExprGives (λ r. r.ty) result (operand_seen scope.now.funs scope.now.names stream_item s.now >>! λ _. Err (record { place = template.now.at; kind = TypeKind.Unknown })) }
     ensures stands { IsErr result }
 {
     let _ = stream(alloc, scope, s)?;
@@ -364,7 +364,7 @@ pub fn shape_line(
     requires core { IsTrue (is_core_shape shape.now) }
     requires funs { length scope.old.funs < 2 ^ 32 }
     requires codes { length codes.old < 2 ^ 32 }
-    ensures ty { Gives (λ r. r.ty) result (shape_typing scope.old.funs scope.old.names shape.now) }
+    ensures ty { ExprGives (λ r. r.ty) result (shape_typing scope.old.funs scope.old.names shape.now) }
     ensures stands { IfOk result (λ r. r.shape ≡ line_shape [] (here scope.old codes.old) shape.now) }
     ensures codes { OnOk result (codes.new ≡ codes.old ++ code_in (here scope.old codes.old) (lam_in shape.now)) }
     ensures scope { OnOk result (scope.new ≡ scope.old) }

@@ -2,8 +2,8 @@
 
 ghost use Rattle.std.specs.Prelude.{◌≡◌, MatchOption, None, Some, IfOk};
 ghost use Rattle.frp_base.specs.declared.ty.Ty.TheVariants as t;
-ghost use Rattle.frp_expr.specs.Gives.{Gives};
-ghost use Rattle.frp_expr.specs.Raw.{or_fault, written};
+ghost use Rattle.frp_expr.specs.Gives.{ExprGives};
+ghost use Rattle.frp_expr.specs.Raw.{or_fault, type_written};
 ghost use Rattle.frp_expr.specs.Types as spec;
 ghost use Rattle.frp_expr.specs.Typing.{◌>>=◌ as ◌>>?◌};
 ghost use Rattle.frp_graph.specs.TypedProg.{stream_item, cell_item};
@@ -55,7 +55,7 @@ fn fun_parts(ty: Ty) -> Option<(Boxed<Ty>, Boxed<Ty>)>
 
 /// The type of the items of the lists that a stream gives, or a fault at this place.
 pub fn split_item(ty: Ty, at: u64) -> Result<Boxed<Ty>, ExprStop>
-    ensures { Gives (λ x. x) result (or_fault at TypeKind.Type (stream_item ty >>? spec.item_type)) }
+    ensures { ExprGives (λ x. x) result (or_fault at TypeKind.Type (stream_item ty >>? spec.item_type)) }
 {
     if let Some(a) = stream_item(ty) {
         if let Some(b) = list_item(a.into_inner()) {
@@ -67,7 +67,7 @@ pub fn split_item(ty: Ty, at: u64) -> Result<Boxed<Ty>, ExprStop>
 
 /// The type of what the streams that a cell holds give, or a fault at this place.
 pub fn held_stream_item(ty: Ty, at: u64) -> Result<Boxed<Ty>, ExprStop>
-    ensures { Gives (λ x. x) result (or_fault at TypeKind.Type (cell_item ty >>? stream_item)) }
+    ensures { ExprGives (λ x. x) result (or_fault at TypeKind.Type (cell_item ty >>? stream_item)) }
 {
     if let Some(a) = cell_item(ty) {
         if let Some(b) = stream_item(a.into_inner()) {
@@ -79,7 +79,7 @@ pub fn held_stream_item(ty: Ty, at: u64) -> Result<Boxed<Ty>, ExprStop>
 
 /// The type of what the cells that a cell holds hold, or a fault at this place.
 pub fn held_cell_item(ty: Ty, at: u64) -> Result<Boxed<Ty>, ExprStop>
-    ensures { Gives (λ x. x) result (or_fault at TypeKind.Type (cell_item ty >>? cell_item)) }
+    ensures { ExprGives (λ x. x) result (or_fault at TypeKind.Type (cell_item ty >>? cell_item)) }
 {
     if let Some(a) = cell_item(ty) {
         if let Some(b) = cell_item(a.into_inner()) {
@@ -91,7 +91,7 @@ pub fn held_cell_item(ty: Ty, at: u64) -> Result<Boxed<Ty>, ExprStop>
 
 /// The argument and the result of the functions that a cell holds, or a fault at this place.
 pub fn held_fun_parts(ty: Ty, at: u64) -> Result<(Boxed<Ty>, Boxed<Ty>), ExprStop>
-    ensures { Gives (λ r. (r.0, r.1)) result (or_fault at TypeKind.Type (cell_item ty >>? fun_parts)) }
+    ensures { ExprGives (λ r. (r.0, r.1)) result (or_fault at TypeKind.Type (cell_item ty >>? fun_parts)) }
 {
     if let Some(f) = cell_item(ty) {
         if let Some(parts) = fun_parts(f.into_inner()) {
@@ -118,7 +118,7 @@ pub fn copied(alloc: Global, ty: &Boxed<Ty>) -> Result<Boxed<Ty>, Memory>
 
 /// The type that is written, or its first fault.
 pub fn boxed_type(alloc: Global, ty: &RawTy) -> Result<Boxed<Ty>, ExprStop>
-    ensures { Gives (λ x. x) result (written ty.now) }
+    ensures { ExprGives (λ x. x) result (type_written ty.now) }
 {
     Ok(Boxed::new(alloc, written_type(alloc, ty)?)?)
 }

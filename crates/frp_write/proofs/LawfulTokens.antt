@@ -11,8 +11,8 @@ use Rattle.frp_expr.specs.Types.{fits}
 use Rattle.frp_expr.specs.Operators.{most}
 use Rattle.frp_expr.specs.Raw.{is_lawful, is_lawful_step}
 use Rattle.frp_lex.specs.declared.token.Kind.TheVariants as k
-use Rattle.frp_lex.specs.Atoms.{fits as fits_token}
-use Rattle.frp_lex.specs.Spelling.{is_lawful as is_lawful_token, are_lawful}
+use Rattle.frp_lex.specs.Atoms.{fits_token}
+use Rattle.frp_lex.specs.Spelling.{is_lawful_token, are_lawful}
 use Rattle.frp_file.specs.declared.file.Param.{Param}
 use Rattle.frp_file.specs.declared.file.ShapeForm.{ShapeForm}
 use Rattle.frp_file.specs.declared.file.ShapeForm.TheVariants as s
@@ -28,7 +28,7 @@ use Rattle.frp_file.specs.declared.file.RawSend.{RawSend}
 use Rattle.frp_file.specs.declared.file.Sender.{Sender}
 use Rattle.frp_file.specs.declared.file.File.{File}
 use Rattle.frp_base.proofs.Booleans.{both_true, true_both}
-use Rattle.frp_write.specs.Writing.{Kinds, joined, parens, form, spot_kind, ty_kinds, ty_kinds_step, expr_kinds, expr_kinds_step, param_kinds, params_kinds, shape_form_kinds, item_kinds, item_form_kinds, template_kinds, function_kinds, decl_kinds, graph_kinds, listen_kinds, send_kinds, sender_kinds, forms_of}
+use Rattle.frp_write.specs.Writing.{Kinds, run_together, parens, form, spot_kind, ty_kinds, ty_kinds_step, expr_kinds, expr_kinds_step, param_kinds, params_kinds, shape_form_kinds, item_kinds, item_form_kinds, template_kinds, function_kinds, decl_kinds, graph_kinds, listen_kinds, send_kinds, sender_kinds, forms_of}
 use Rattle.frp_write.specs.Lawful.{level, is_user_spot, are_user_two, ty_within, ty_within_step, expr_within, within_step, all_within, is_lawful_ty, is_lawful_expr, are_lawful_two, are_lawful_three, is_lawful_param, is_lawful_shape, is_lawful_item_form, is_of_graph, is_of_template, is_lawful_item, is_lawful_body_item, is_lawful_template, is_lawful_function, is_lawful_decl, is_lawful_listen, is_lawful_send, is_lawful_sender, is_lawful_file}
 use Rattle.frp_write.proofs.PlacedTypes as types
 use Rattle.frp_write.proofs.PlacedExprs as exprs
@@ -50,9 +50,9 @@ headed word ks g h = closed (k.Name word ∷ ks) (true_both (is_lawful_token (k.
 named : (x : Spot) (ks : Kinds) → is_user_spot x ≡ true → Lawful ks → Lawful (spot_kind x ∷ ks)
 named x ks g h = true_both (is_lawful_token (spot_kind x)) (are_lawful ks) (both_true _ _ g).0 h
 
-each : {A : Type 0} (kinds_of : A → Kinds) (lawful : A → Bool) → ((x : A) → lawful x ≡ true → Lawful (kinds_of x)) → (xs : List A) → list_all lawful xs ≡ true → Lawful (joined (map kinds_of xs))
+each : {A : Type 0} (kinds_of : A → Kinds) (lawful : A → Bool) → ((x : A) → lawful x ≡ true → Lawful (kinds_of x)) → (xs : List A) → list_all lawful xs ≡ true → Lawful (run_together (map kinds_of xs))
 each kinds_of lawful one [] h = refl
-each kinds_of lawful one (x ∷ xs) h = let p = both_true (lawful x) (list_all lawful xs) h in both (kinds_of x) (joined (map kinds_of xs)) (one x p.0) (each kinds_of lawful one xs p.1)
+each kinds_of lawful one (x ∷ xs) h = let p = both_true (lawful x) (list_all lawful xs) h in both (kinds_of x) (run_together (map kinds_of xs)) (one x p.0) (each kinds_of lawful one xs p.1)
 
 -- ---- types
 
@@ -107,7 +107,7 @@ module _ (n : ℕ) (known : KnownExpr n) where
       let qs = both_true (expr_within x n) (expr_within z n) q.0 in
       both (expr_kinds x ++ expr_kinds z) (expr_kinds v) (both (expr_kinds x) (expr_kinds z) (one_expr x ps.0 qs.0) (one_expr z ps.1 qs.1)) (one_expr v p.1 q.1)
 
-  each_expr : (xs : List Raw) → list_all (λ (a : Bool). a) (map is_lawful xs) ≡ true → all_within (map expr_within xs) n ≡ true → Lawful (joined (map expr_kinds xs))
+  each_expr : (xs : List Raw) → list_all (λ (a : Bool). a) (map is_lawful xs) ≡ true → all_within (map expr_within xs) n ≡ true → Lawful (run_together (map expr_kinds xs))
   each_expr xs h w = each expr_kinds (allowed n) known xs (all_allowed n xs h w)
 
   let_expr : (v : Spot) (x z : Raw) → is_lawful x && is_lawful z ≡ true → is_user_spot v && expr_within x n && expr_within z n ≡ true → Lawful (form (codes "let") (spot_kind v ∷ expr_kinds x ++ expr_kinds z))
@@ -118,16 +118,16 @@ module _ (n : ℕ) (known : KnownExpr n) where
       headed (codes "let") (spot_kind v ∷ expr_kinds x ++ expr_kinds z) refl
       (named v (expr_kinds x ++ expr_kinds z) qs.0 (both (expr_kinds x) (expr_kinds z) (one_expr x p.0 qs.1) (one_expr z p.1 q.1)))
 
-  list_expr : (xs : List Raw) → list_all (λ (a : Bool). a) (map is_lawful xs) && nat_le 1 (length (map is_lawful xs)) && nat_le (length (map is_lawful xs)) most ≡ true → all_within (map expr_within xs) n ≡ true → Lawful (form (codes "list") (joined (map expr_kinds xs)))
+  list_expr : (xs : List Raw) → list_all (λ (a : Bool). a) (map is_lawful xs) && nat_le 1 (length (map is_lawful xs)) && nat_le (length (map is_lawful xs)) most ≡ true → all_within (map expr_within xs) n ≡ true → Lawful (form (codes "list") (run_together (map expr_kinds xs)))
   list_expr xs h w =
       let p = both_true (list_all (λ (a : Bool). a) (map is_lawful xs) && nat_le 1 (length (map is_lawful xs))) (nat_le (length (map is_lawful xs)) most) h in
       let q = both_true (list_all (λ (a : Bool). a) (map is_lawful xs)) (nat_le 1 (length (map is_lawful xs))) p.0 in
-      headed (codes "list") (joined (map expr_kinds xs)) refl (each_expr xs q.0 w)
+      headed (codes "list") (run_together (map expr_kinds xs)) refl (each_expr xs q.0 w)
 
-  close_expr : (v : Spot) (xs : List Raw) → list_all (λ (a : Bool). a) (map is_lawful xs) ≡ true → is_user_spot v && all_within (map expr_within xs) n ≡ true → Lawful (form (codes "close") (spot_kind v ∷ joined (map expr_kinds xs)))
+  close_expr : (v : Spot) (xs : List Raw) → list_all (λ (a : Bool). a) (map is_lawful xs) ≡ true → is_user_spot v && all_within (map expr_within xs) n ≡ true → Lawful (form (codes "close") (spot_kind v ∷ run_together (map expr_kinds xs)))
   close_expr v xs h w =
       let q = both_true (is_user_spot v) (all_within (map expr_within xs) n) w in
-      headed (codes "close") (spot_kind v ∷ joined (map expr_kinds xs)) refl (named v (joined (map expr_kinds xs)) q.0 (each_expr xs h q.1))
+      headed (codes "close") (spot_kind v ∷ run_together (map expr_kinds xs)) refl (named v (run_together (map expr_kinds xs)) q.0 (each_expr xs h q.1))
 
   expr_layer : (l : exprs.Layer) → is_lawful_step (exprs.lawful_through l) ≡ true → within_step (exprs.within_through l) n ≡ true → Lawful (expr_kinds_step (exprs.kinds_through l))
   expr_layer (o.Int z) h w = fits_so z h
@@ -185,7 +185,7 @@ param_lawful : (x : Param) → is_lawful_param x ≡ true → Lawful (param_kind
 param_lawful x h = let p = both_true (is_user_spot x.name) (is_lawful_ty x.ty) h in closed (spot_kind x.name ∷ ty_kinds x.ty) (named x.name (ty_kinds x.ty) p.0 (ty_lawful x.ty p.1))
 
 params_lawful : (xs : List Param) → list_all is_lawful_param xs ≡ true → Lawful (params_kinds xs)
-params_lawful xs h = closed (joined (map param_kinds xs)) (each param_kinds is_lawful_param param_lawful xs h)
+params_lawful xs h = closed (run_together (map param_kinds xs)) (each param_kinds is_lawful_param param_lawful xs h)
 
 mapping : (word : List ℕ) (v : Spot) (x z : Raw) → is_lawful_token (k.Name word) ≡ true → is_user_spot v && are_lawful_two x z ≡ true → Lawful (form word (spot_kind v ∷ expr_kinds x ++ expr_kinds z))
 mapping word v x z g h = let p = both_true (is_user_spot v) (are_lawful_two x z) h in headed word (spot_kind v ∷ expr_kinds x ++ expr_kinds z) g (named v (expr_kinds x ++ expr_kinds z) p.0 (two_lawful x z p.1))
@@ -217,11 +217,11 @@ lift_lawful v w x y z h =
     let ks : Kinds = param_kinds v ++ param_kinds w in
     headed (codes "lift2") (ks ++ expr_kinds x ++ expr_kinds y ++ expr_kinds z) refl (behind ks x y z (both (param_kinds v) (param_kinds w) (param_lawful v q.0) (param_lawful w q.1)) p.1)
 
-execute_lawful : (x : Raw) (v : Spot) (kept : List Raw) → is_lawful_expr x && is_user_spot v && list_all is_lawful_expr kept ≡ true → Lawful (form (codes "execute") (expr_kinds x ++ spot_kind v ∷ joined (map expr_kinds kept)))
+execute_lawful : (x : Raw) (v : Spot) (kept : List Raw) → is_lawful_expr x && is_user_spot v && list_all is_lawful_expr kept ≡ true → Lawful (form (codes "execute") (expr_kinds x ++ spot_kind v ∷ run_together (map expr_kinds kept)))
 execute_lawful x v kept h =
     let p = both_true (is_lawful_expr x && is_user_spot v) (list_all is_lawful_expr kept) h in
     let q = both_true (is_lawful_expr x) (is_user_spot v) p.0 in
-    let ks : Kinds = joined (map expr_kinds kept) in
+    let ks : Kinds = run_together (map expr_kinds kept) in
     headed (codes "execute") (expr_kinds x ++ spot_kind v ∷ ks) refl (both (expr_kinds x) (spot_kind v ∷ ks) (expr_lawful x q.0) (named v ks q.1 (each expr_kinds is_lawful_expr expr_lawful kept p.1)))
 
 shape_lawful : (x : ShapeForm) → is_lawful_shape x ≡ true → Lawful (shape_form_kinds x)
@@ -278,7 +278,7 @@ template_lawful x h =
     let h2 = both_true (is_user_spot x.name && is_lawful_param x.param) (list_all is_lawful_param x.kept) h3.0 in
     let h1 = both_true (is_user_spot x.name) (is_lawful_param x.param) h2.0 in
     let gk : Kinds = form (codes "give") (expr_kinds x.give.e) in
-    let ik : Kinds = joined (map item_kinds x.items) in
+    let ik : Kinds = run_together (map item_kinds x.items) in
     let kk : Kinds = params_kinds x.kept in
     let pk : Kinds = param_kinds x.param in
     headed (codes "template") (spot_kind x.name ∷ pk ++ kk ++ ik ++ gk) refl (named x.name (pk ++ kk ++ ik ++ gk) h1.0
@@ -311,7 +311,7 @@ send_lawful x h = named_first (codes "send") x.name (expr_kinds x.value) (is_law
 sender_lawful : (x : Sender) → is_lawful_sender x ≡ true → Lawful (sender_kinds x)
 sender_lawful x h =
     let p = both_true (list_all is_lawful_send x.sends) (nat_le (length x.sends) 4096) h in
-    headed (codes "sender") (joined (map send_kinds x.sends)) refl (each send_kinds is_lawful_send send_lawful x.sends p.0)
+    headed (codes "sender") (run_together (map send_kinds x.sends)) refl (each send_kinds is_lawful_send send_lawful x.sends p.0)
 
 each_form : {A : Type 0} (kinds_of : A → Kinds) (lawful : A → Bool) → ((x : A) → lawful x ≡ true → Lawful (kinds_of x)) → (xs : List A) (more : List Kinds) → list_all lawful xs ≡ true → list_all are_lawful more ≡ true → list_all are_lawful (map kinds_of xs ++ more) ≡ true
 each_form kinds_of lawful one [] more h g = g
@@ -332,5 +332,5 @@ forms_lawful f h =
     let h2 = both_true (list_all is_lawful_decl f.graph.decls && list_all is_lawful_listen f.listens) (list_all is_lawful_sender f.senders) h3.0 in
     let h1 = both_true (list_all is_lawful_decl f.graph.decls) (list_all is_lawful_listen f.listens) h2.0 in
     true_both (are_lawful (graph_kinds f.graph)) (list_all are_lawful (map listen_kinds f.listens ++ map sender_kinds f.senders))
-    (headed (codes "graph") (joined (map decl_kinds f.graph.decls)) refl (each decl_kinds is_lawful_decl decl_lawful f.graph.decls h1.0))
+    (headed (codes "graph") (run_together (map decl_kinds f.graph.decls)) refl (each decl_kinds is_lawful_decl decl_lawful f.graph.decls h1.0))
     (each_form listen_kinds is_lawful_listen listen_lawful f.listens (map sender_kinds f.senders) h1.1 (each_last sender_kinds is_lawful_sender sender_lawful f.senders h2.1))

@@ -8,7 +8,7 @@ use Rattle.frp_expr.specs.declared.raw.Spot.{Spot}
 use Rattle.frp_lex.specs.declared.token.Token.{Token}
 use Rattle.frp_lex.specs.Spelling.{kinds}
 use Rattle.frp_form.specs.Tokens.{is_literal}
-use Rattle.frp_write.specs.Writing.{Kinds, joined}
+use Rattle.frp_write.specs.Writing.{Kinds, run_together}
 use Rattle.frp_form.specs.Grammar.{AreAll, none, more, IsUser}
 use Rattle.frp_write.specs.Lawful.{is_user}
 use Rattle.frp_write.proofs.Splitting.{part}
@@ -35,11 +35,11 @@ module _ {A : Type 0} (Is : A → List Token → Type 0) (bare : A → A) (kinds
   no_tokens [] h = record { y = []; is = none; same = refl }
   no_tokens (t ∷ ts) h = absurd cc
 
-  pub all_placed : Places → (xs : List A) → list_all lawful xs ≡ true → (ts : List Token) → kinds ts ≡ joined (map kinds_of xs) → Placed (AreAll Is) (map bare) xs ts
+  pub all_placed : Places → (xs : List A) → list_all lawful xs ≡ true → (ts : List Token) → kinds ts ≡ run_together (map kinds_of xs) → Placed (AreAll Is) (map bare) xs ts
   all_placed places [] h ts e = no_tokens ts e
   all_placed places (x ∷ xs) h ts e =
       let p = both_true (lawful x) (list_all lawful xs) h in
-      part (Placed (AreAll Is) (map bare) (x ∷ xs)) (kinds_of x) (joined (map kinds_of xs)) (λ us vs d f. one_more x xs us vs (places x p.0 us d) (all_placed places xs p.1 vs f)) ts e
+      part (Placed (AreAll Is) (map bare) (x ∷ xs)) (kinds_of x) (run_together (map kinds_of xs)) (λ us vs d f. one_more x xs us vs (places x p.0 us d) (all_placed places xs p.1 vs f)) ts e
 
 -- lists that are the same, places apart, are as long
 pub as_long : {A : Type 0} (bare : A → A) (xs ys : List A) → map bare ys ≡ map bare xs → length ys ≡ length xs

@@ -25,7 +25,7 @@ use Rattle.frp_form.specs.Heads.{raw_at, unary_form, binary_form, ternary_form}
 use Rattle.frp_form.specs.Words.{bool_word, unary_word, binary_word, ternary_word}
 use Rattle.frp_form.specs.Grammar.{left_at, name_at, name_of, AreAll, ExprCase, number, text, true_or_false, name, form_of_one, form_of_two, form_of_three, let_form, list_form, nil_form, close_form, IsTypeOf, IsExprOf, IsExpr}
 use Rattle.frp_base.proofs.Booleans.{both_true, true_both}
-use Rattle.frp_write.specs.Writing.{Kinds, joined, form, spot_kind, ty_kinds, expr_kinds, expr_kinds_step}
+use Rattle.frp_write.specs.Writing.{Kinds, run_together, form, spot_kind, ty_kinds, expr_kinds, expr_kinds_step}
 use Rattle.frp_write.specs.Lawful.{Levels, level, is_user, is_user_spot, ty_within, within_step, expr_within, all_within, is_lawful_expr}
 use Rattle.frp_write.specs.Places.{unplaced_spot, unplaced_step, unplaced_expr}
 use Rattle.frp_write.proofs.Splitting.{one, ending, opening, closing, closing_two, closing_three}
@@ -102,7 +102,7 @@ module _ (n : ℕ) (known : Known n) where
   known_by : (x : Raw) → is_lawful x ≡ true → expr_within x n ≡ true → (ts : List Token) → kinds ts ≡ expr_kinds x → PlacedExpr n x ts
   known_by x h w ts e = known x (true_both (is_lawful x) (expr_within x n) h w) ts e
 
-  each_known : (xs : List Raw) → list_all (λ (a : Bool). a) (map is_lawful xs) ≡ true → all_within (map expr_within xs) n ≡ true → (ts : List Token) → kinds ts ≡ joined (map expr_kinds xs) → Placed (AreAll (IsExprOf n)) (map unplaced_expr) xs ts
+  each_known : (xs : List Raw) → list_all (λ (a : Bool). a) (map is_lawful xs) ≡ true → all_within (map expr_within xs) n ≡ true → (ts : List Token) → kinds ts ≡ run_together (map expr_kinds xs) → Placed (AreAll (IsExprOf n)) (map unplaced_expr) xs ts
   each_known xs h w = all_placed (IsExprOf n) unplaced_expr expr_kinds (allowed n) known xs (all_allowed n xs h w)
 
   int_placed : (at : ℕ) (z : ℤ) (ts : List Token) → kinds ts ≡ k.Num z ∷ [] → Result at (o.Int z) ts
@@ -196,13 +196,13 @@ module _ (n : ℕ) (known : Known n) where
   few xs ys e h = let l = as_long unplaced_expr xs ys e in let m = length-map xs is_lawful in grind (arith, common_steps)
 
   list_placed : (at : ℕ) (xs : List Raw) → list_all (λ (a : Bool). a) (map is_lawful xs) && nat_le 1 (length (map is_lawful xs)) && nat_le (length (map is_lawful xs)) most ≡ true → all_within (map expr_within xs) n ≡ true
-      → (ts : List Token) → kinds ts ≡ form (codes "list") (joined (map expr_kinds xs)) → Result at (o.List xs) ts
+      → (ts : List Token) → kinds ts ≡ form (codes "list") (run_together (map expr_kinds xs)) → Result at (o.List xs) ts
   list_placed at xs h w ts e =
       let P = Result at (o.List xs) in
       let h0 = both_true (list_all (λ (a : Bool). a) (map is_lawful xs) && nat_le 1 (length (map is_lawful xs))) (nat_le (length (map is_lawful xs)) most) h in
       let hs = both_true (list_all (λ (a : Bool). a) (map is_lawful xs)) (nat_le 1 (length (map is_lawful xs))) h0.0 in
-      opening P (codes "list") (joined (map expr_kinds xs)) (λ a b us d.
-      closing (λ vs. P (left_at a ∷ name_at b (codes "list") ∷ vs)) (joined (map expr_kinds xs)) (λ vs c g.
+      opening P (codes "list") (run_together (map expr_kinds xs)) (λ a b us d.
+      closing (λ vs. P (left_at a ∷ name_at b (codes "list") ∷ vs)) (run_together (map expr_kinds xs)) (λ vs c g.
       let p = each_known xs hs.0 w vs g in
       record {
         y = raw_at a (f.List p.y);
@@ -223,14 +223,14 @@ module _ (n : ℕ) (known : Known n) where
       }) us d) ts e
 
   close_placed : (at : ℕ) (s : Spot) (xs : List Raw) → list_all (λ (a : Bool). a) (map is_lawful xs) ≡ true → is_user_spot s && all_within (map expr_within xs) n ≡ true
-      → (ts : List Token) → kinds ts ≡ form (codes "close") (spot_kind s ∷ joined (map expr_kinds xs)) → Result at (o.Close s xs) ts
+      → (ts : List Token) → kinds ts ≡ form (codes "close") (spot_kind s ∷ run_together (map expr_kinds xs)) → Result at (o.Close s xs) ts
   close_placed at s xs h w ts e =
       let P = Result at (o.Close s xs) in
       let ws = both_true (is_user_spot s) (all_within (map expr_within xs) n) w in
-      opening P (codes "close") (spot_kind s ∷ joined (map expr_kinds xs)) (λ a b us d.
-      one (λ vs. P (left_at a ∷ name_at b (codes "close") ∷ vs)) (spot_kind s) (joined (map expr_kinds xs) ++ k.Right ∷ []) (λ v us d.
+      opening P (codes "close") (spot_kind s ∷ run_together (map expr_kinds xs)) (λ a b us d.
+      one (λ vs. P (left_at a ∷ name_at b (codes "close") ∷ vs)) (spot_kind s) (run_together (map expr_kinds xs) ++ k.Right ∷ []) (λ v us d.
       let w : Spot = record { at = v; text = s.text } in
-      closing (λ vs. P (left_at a ∷ name_at b (codes "close") ∷ name_of w ∷ vs)) (joined (map expr_kinds xs)) (λ vs c g.
+      closing (λ vs. P (left_at a ∷ name_at b (codes "close") ∷ name_of w ∷ vs)) (run_together (map expr_kinds xs)) (λ vs c g.
       let p = each_known xs h ws.1 vs g in
       record {
         y = raw_at a (f.Close w p.y);

@@ -29,7 +29,7 @@ use Rattle.frp_form.specs.Shapes.{shape_at}
 use Rattle.frp_form.specs.Words.{typed_word, unary_shape_word, binary_shape_word, map_word, join_word, fold_word}
 use Rattle.frp_form.specs.Grammar.{left_at, right_at, name_at, name_of, IsType, IsExpr, IsParam, param_is, IsShape, typed, shape_of_one, shape_of_two, mapping, joining, folding, lifting, executing}
 use Rattle.frp_base.proofs.Booleans.{both_true}
-use Rattle.frp_write.specs.Writing.{Kinds, joined, form, spot_kind, ty_kinds, expr_kinds, param_kinds, shape_kinds, shape_form_kinds}
+use Rattle.frp_write.specs.Writing.{Kinds, run_together, form, spot_kind, ty_kinds, expr_kinds, param_kinds, shape_kinds, shape_form_kinds}
 use Rattle.frp_write.specs.Lawful.{is_user_spot, are_user_two, is_lawful_ty, is_lawful_expr, are_lawful_two, are_lawful_three, is_lawful_param, is_lawful_shape}
 use Rattle.frp_write.specs.Places.{unplaced_spot, unplaced_ty, unplaced_expr, unplaced_param, unplaced_shape, unplaced_shape_form}
 use Rattle.frp_write.proofs.Splitting.{one, part, opening, closing, closing_two, closing_three}
@@ -243,12 +243,12 @@ lift_placed at v w x y z h ts e =
     }) us g) us g) us d) ts e
 
 execute_placed : (at : ℕ) (x : Raw) (v : Spot) (kept : List Raw) → is_lawful_expr x && is_user_spot v && list_all is_lawful_expr kept ≡ true
-    → (ts : List Token) → kinds ts ≡ form (codes "execute") (expr_kinds x ++ spot_kind v ∷ joined (map expr_kinds kept)) → Result at (s.Execute x v kept) ts
+    → (ts : List Token) → kinds ts ≡ form (codes "execute") (expr_kinds x ++ spot_kind v ∷ run_together (map expr_kinds kept)) → Result at (s.Execute x v kept) ts
 execute_placed at x v kept h ts e =
     let P = Result at (s.Execute x v kept) in
     let hs = both_true (is_lawful_expr x && is_user_spot v) (list_all is_lawful_expr kept) h in
     let ns = both_true (is_lawful_expr x) (is_user_spot v) hs.0 in
-    let ks : Kinds = joined (map expr_kinds kept) in
+    let ks : Kinds = run_together (map expr_kinds kept) in
     opening P (codes "execute") (expr_kinds x ++ spot_kind v ∷ ks) (λ a b us d.
     closing_two (λ vs. P (left_at a ∷ name_at b (codes "execute") ∷ vs)) (expr_kinds x) (spot_kind v ∷ ks) (λ xs us c g d.
     let p = expr_placed x ns.0 xs g in

@@ -18,8 +18,8 @@ use Rattle.frp_expr.specs.Types.{fits}
 use Rattle.frp_expr.specs.Raw.{is_lawful, is_lawful_step}
 use Rattle.frp_lex.specs.declared.token.Kind.TheVariants as k
 use Rattle.frp_lex.specs.declared.token.Token.{Token}
-use Rattle.frp_lex.specs.Atoms.{fits as fits_token}
-use Rattle.frp_lex.specs.Spelling.{kinds, is_lawful as is_lawful_token, are_lawful}
+use Rattle.frp_lex.specs.Atoms.{fits_token}
+use Rattle.frp_lex.specs.Spelling.{kinds, is_lawful_token, are_lawful}
 use Rattle.frp_form.specs.declared.ty_word.AtomTy.{AtomTy}
 use Rattle.frp_form.specs.declared.ty_word.AtomTy.TheVariants as a
 use Rattle.frp_form.specs.declared.ty_word.UnaryTy.{UnaryTy}

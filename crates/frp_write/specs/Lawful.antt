@@ -10,7 +10,7 @@ use Rattle.frp_expr.specs.declared.raw.RawForm.{RawForm-F}
 use Rattle.frp_expr.specs.declared.raw.RawForm.TheOpen as o
 use Rattle.frp_expr.specs.Raw.{is_lawful}
 use Rattle.frp_lex.specs.declared.token.Kind.TheVariants as k
-use Rattle.frp_lex.specs.Spelling.{is_lawful as is_lawful_token}
+use Rattle.frp_lex.specs.Spelling.{is_lawful_token}
 use Rattle.frp_file.specs.declared.file.File.{File}
 use Rattle.frp_file.specs.declared.file.Decl.{Decl}
 use Rattle.frp_file.specs.declared.file.Decl.TheVariants as d

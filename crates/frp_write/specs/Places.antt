@@ -27,7 +27,7 @@ use Rattle.frp_file.specs.declared.file.RawSend.{RawSend}
 use Rattle.frp_form.specs.Types.{raw_ty}
 use Rattle.frp_form.specs.Heads.{raw_at}
 use Rattle.frp_form.specs.Shapes.{shape_at}
-use Rattle.frp_form.specs.Items.{item_at}
+use Rattle.frp_form.specs.Items.{placed_item}
 
 abbrev pub unplaced_spot : Spot → Spot
 unplaced_spot x = record { at = 0; text = x.text }
@@ -84,7 +84,7 @@ unplaced_item_form (i.Tie from to) = i.Tie (unplaced_spot from) (unplaced_spot t
 unplaced_item_form (i.Get name cell) = i.Get (unplaced_spot name) (unplaced_expr cell)
 
 abbrev pub unplaced_item : Item → Item
-unplaced_item x = item_at 0 (unplaced_item_form x.form)
+unplaced_item x = placed_item 0 (unplaced_item_form x.form)
 
 abbrev pub unplaced_give : Give → Give
 unplaced_give g = record { at = 0; e = unplaced_expr g.e }

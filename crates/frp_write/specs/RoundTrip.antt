@@ -6,7 +6,7 @@ use Rattle.frp_lex.specs.Tokens.{tokens}
 use Rattle.frp_file.specs.declared.file.File.{File}
 use Rattle.frp_form.specs.declared.reading.Reading.{Reading}
 use Rattle.frp_form.specs.File.{file_of}
-use Rattle.frp_write.specs.Writing.{joined, forms_of, canonical}
+use Rattle.frp_write.specs.Writing.{run_together, forms_of, canonical}
 use Rattle.frp_write.specs.Lawful.{is_lawful_file}
 use Rattle.frp_write.specs.Places.{unplaced}
 
@@ -20,7 +20,7 @@ AreReadAs f ts = (end : ℕ) → (g : File) × (file_of end in_check ts ≡ Ok g
 
 -- tokens of the kinds of a lawful file's forms, wherever they stand, are read as that file
 abbrev pub WrittenIsRead : Type 0
-WrittenIsRead = (f : File) (ts : List Token) → IsTrue (is_lawful_file f) → kinds ts ≡ joined (forms_of f) → AreReadAs f ts
+WrittenIsRead = (f : File) (ts : List Token) → IsTrue (is_lawful_file f) → kinds ts ≡ run_together (forms_of f) → AreReadAs f ts
 
 -- the canonical text of a lawful file has tokens, and they are read as that file
 abbrev pub CanonicalIsRead : Type 0

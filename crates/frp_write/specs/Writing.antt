@@ -31,9 +31,9 @@ abbrev pub Kinds : Type 0
 Kinds = List Kind
 
 -- lists one after the other
-abbrev pub joined : List Kinds → Kinds
-joined [] = []
-joined (ks ∷ more) = ks ++ joined more
+abbrev pub run_together : List Kinds → Kinds
+run_together [] = []
+run_together (ks ∷ more) = ks ++ run_together more
 
 -- in parentheses
 abbrev pub parens : Kinds → Kinds
@@ -89,9 +89,9 @@ expr_kinds_step (o.Append a b) = form (codes "append") (a ++ b)
 expr_kinds_step (o.Cat a b) = form (codes "cat") (a ++ b)
 expr_kinds_step (o.If c a b) = form (codes "if") (c ++ a ++ b)
 expr_kinds_step (o.At a i d) = form (codes "at") (a ++ i ++ d)
-expr_kinds_step (o.List ps) = form (codes "list") (joined ps)
+expr_kinds_step (o.List ps) = form (codes "list") (run_together ps)
 expr_kinds_step (o.Nil a) = form (codes "nil") (ty_kinds a)
-expr_kinds_step (o.Close f ps) = form (codes "close") (spot_kind f ∷ joined ps)
+expr_kinds_step (o.Close f ps) = form (codes "close") (spot_kind f ∷ run_together ps)
 
 abbrev pub expr_kinds : Raw → Kinds
 expr_kinds = fold-Raw Kinds Kinds expr_kinds_step (λ r. r.form)
@@ -104,7 +104,7 @@ param_kinds p = parens (spot_kind p.name ∷ ty_kinds p.ty)
 
 -- names and their types
 abbrev pub params_kinds : List Param → Kinds
-params_kinds ps = parens (joined (map param_kinds ps))
+params_kinds ps = parens (run_together (map param_kinds ps))
 
 abbrev pub shape_form_kinds : ShapeForm → Kinds
 shape_form_kinds (s.Never ty) = form (codes "never") (ty_kinds ty)
@@ -123,7 +123,7 @@ shape_form_kinds (s.Hold o s) = form (codes "hold") (expr_kinds o ++ expr_kinds 
 shape_form_kinds (s.Apply cf ca) = form (codes "apply") (expr_kinds cf ++ expr_kinds ca)
 shape_form_kinds (s.Switchs c) = form (codes "switchs") (expr_kinds c)
 shape_form_kinds (s.Switchc c) = form (codes "switchc") (expr_kinds c)
-shape_form_kinds (s.Execute s t kept) = form (codes "execute") (expr_kinds s ++ spot_kind t ∷ joined (map expr_kinds kept))
+shape_form_kinds (s.Execute s t kept) = form (codes "execute") (expr_kinds s ++ spot_kind t ∷ run_together (map expr_kinds kept))
 shape_form_kinds (s.Orelse a b) = form (codes "orelse") (expr_kinds a ++ expr_kinds b)
 shape_form_kinds (s.Gate s c) = form (codes "gate") (expr_kinds s ++ expr_kinds c)
 shape_form_kinds (s.Once s) = form (codes "once") (expr_kinds s)
@@ -149,7 +149,7 @@ item_kinds r = item_form_kinds r.form
 
 abbrev pub template_kinds : Template → Kinds
 template_kinds t = form (codes "template")
-    (spot_kind t.name ∷ param_kinds t.param ++ params_kinds t.kept ++ joined (map item_kinds t.items) ++ form (codes "give") (expr_kinds t.give.e))
+    (spot_kind t.name ∷ param_kinds t.param ++ params_kinds t.kept ++ run_together (map item_kinds t.items) ++ form (codes "give") (expr_kinds t.give.e))
 
 abbrev pub function_kinds : Function → Kinds
 function_kinds f = form (codes "fun") (spot_kind f.name ∷ params_kinds f.kept ++ param_kinds f.arg ++ expr_kinds f.e)
@@ -162,7 +162,7 @@ decl_kinds (d.Item i) = item_kinds i
 -- the forms at the top of a file
 
 abbrev pub graph_kinds : Graph → Kinds
-graph_kinds g = form (codes "graph") (joined (map decl_kinds g.decls))
+graph_kinds g = form (codes "graph") (run_together (map decl_kinds g.decls))
 
 abbrev pub listen_kinds : Listen → Kinds
 listen_kinds l = form (codes "listen") (spot_kind l.name ∷ [])
@@ -171,7 +171,7 @@ abbrev pub send_kinds : RawSend → Kinds
 send_kinds r = form (codes "send") (spot_kind r.name ∷ expr_kinds r.value)
 
 abbrev pub sender_kinds : Sender → Kinds
-sender_kinds r = form (codes "sender") (joined (map send_kinds r.sends))
+sender_kinds r = form (codes "sender") (run_together (map send_kinds r.sends))
 
 -- the forms at the top, in order
 abbrev pub forms_of : File → List Kinds

@@ -2,7 +2,7 @@
 
 ghost use Rattle.std.specs.Prelude.{◌≡◌, [], ◌∷◌, ◌++◌, map, OnOk, if◌then◌else◌, codes};
 ghost use Rattle.frp_lex.specs.declared.token.Kind.{Kind};
-ghost use Rattle.frp_write.specs.Writing.{form, joined, spot_kind, ty_kinds, expr_kinds};
+ghost use Rattle.frp_write.specs.Writing.{form, run_together, spot_kind, ty_kinds, expr_kinds};
 
 use crate::tokens::{write_head, write_name, write_right, write_spot};
 use crate::types::write_ty;
@@ -51,7 +51,7 @@ fn let_first(alloc: Global, name: &Spot, a: &Raw, out: &mut Seq<Kind>) -> Result
 /// Appends `list`.
 #[cycle(write_expr)]
 fn list_of(alloc: Global, items: &[Raw], out: &mut Seq<Kind>) -> Result<(), Memory>
-    ensures { OnOk result (out.new ≡ out.old ++ form (codes "list") (joined (map expr_kinds items.now))) }
+    ensures { OnOk result (out.new ≡ out.old ++ form (codes "list") (run_together (map expr_kinds items.now))) }
 {
     write_head(alloc, "list", out)?;
     write_exprs(alloc, items, out)?;
@@ -70,7 +70,7 @@ fn nil_of(alloc: Global, ty: &RawTy, out: &mut Seq<Kind>) -> Result<(), Memory>
 /// Appends `close`.
 #[cycle(write_expr)]
 fn close_of(alloc: Global, name: &Spot, kept: &[Raw], out: &mut Seq<Kind>) -> Result<(), Memory>
-    ensures { OnOk result (out.new ≡ out.old ++ form (codes "close") (spot_kind name.now ∷ joined (map expr_kinds kept.now))) }
+    ensures { OnOk result (out.new ≡ out.old ++ form (codes "close") (spot_kind name.now ∷ run_together (map expr_kinds kept.now))) }
 {
     write_head(alloc, "close", out)?;
     write_spot(alloc, name, out)?;
@@ -95,7 +95,7 @@ fn text_of(text: &Text, out: &mut Seq<Kind>) -> Result<(), Memory>
 /// Appends the tokens of several expressions, in order.
 #[cycle(write_expr)]
 pub fn write_exprs(alloc: Global, exprs: &[Raw], out: &mut Seq<Kind>) -> Result<(), Memory>
-    ensures { OnOk result (out.new ≡ out.old ++ joined (map expr_kinds exprs.now)) }
+    ensures { OnOk result (out.new ≡ out.old ++ run_together (map expr_kinds exprs.now)) }
 {
     for expr in exprs {
         write_expr(alloc, expr, out)?;

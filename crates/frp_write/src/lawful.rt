@@ -4,7 +4,7 @@ ghost use Rattle.std.specs.Prelude.{◌≡◌, Bool, suc, map};
 ghost use Rattle.std.specs.List.{list_all};
 ghost use Rattle.frp_lex.specs.declared.token.Kind.{Kind};
 ghost use Rattle.frp_lex.specs.Atoms.{is_name};
-ghost use Rattle.frp_lex.specs.Bytes.{is_lower, is_in_name};
+ghost use Rattle.frp_lex.specs.Bytes.{is_lower_case, is_in_name};
 ghost use Rattle.frp_write.specs.Lawful as spec;
 
 use frp_base::Text;
@@ -46,7 +46,7 @@ fn allows_all<T: Allowed>(all: &[T]) -> bool
 }
 
 fn is_lower(b: u8) -> bool
-    ensures { result ≡ is_lower b }
+    ensures { result ≡ is_lower_case b }
 {
     97 <= b && b <= 122
 }

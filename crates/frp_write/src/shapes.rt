@@ -2,7 +2,7 @@
 
 ghost use Rattle.std.specs.Prelude.{◌≡◌, [], ◌∷◌, ◌++◌, map, OnOk, codes};
 ghost use Rattle.frp_lex.specs.declared.token.Kind.{Kind};
-ghost use Rattle.frp_write.specs.Writing.{form, joined, spot_kind, ty_kinds, expr_kinds, param_kinds, shape_kinds};
+ghost use Rattle.frp_write.specs.Writing.{form, run_together, spot_kind, ty_kinds, expr_kinds, param_kinds, shape_kinds};
 
 use crate::exprs::{write_expr, write_exprs, write_last};
 use crate::tokens::{write_head, write_joint, write_left, write_named, write_right, write_spot};
@@ -97,7 +97,7 @@ fn execute(
     kept: &[Raw],
     out: &mut Seq<Kind>,
 ) -> Result<(), Memory>
-    ensures { OnOk result (out.new ≡ out.old ++ form (codes "execute") (expr_kinds s.now ++ spot_kind template.now ∷ joined (map expr_kinds kept.now))) }
+    ensures { OnOk result (out.new ≡ out.old ++ form (codes "execute") (expr_kinds s.now ++ spot_kind template.now ∷ run_together (map expr_kinds kept.now))) }
 {
     write_head(alloc, "execute", out)?;
     write_expr(alloc, s, out)?;

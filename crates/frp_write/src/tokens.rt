@@ -2,7 +2,7 @@
 
 ghost use Rattle.std.specs.Prelude.{◌≡◌, [], ◌∷◌, ◌++◌, map, List, IfOk, OnOk};
 ghost use Rattle.frp_lex.specs.declared.token.Kind.{Kind};
-ghost use Rattle.frp_write.specs.Writing.{joined, spot_kind};
+ghost use Rattle.frp_write.specs.Writing.{run_together, spot_kind};
 
 use frp_base::{Memory, Seq, Text};
 use frp_expr::Spot;
@@ -22,7 +22,7 @@ pub trait Written {
 /// Appends the tokens of each of these, in order.
 #[tactic(auto, using(std::proofs::Common::append_assoc))]
 pub fn write_each<T: Written>(alloc: Global, forms: &[T], out: &mut Seq<Kind>) -> Result<(), Memory>
-    ensures { OnOk result (out.new ≡ out.old ++ joined (map T.tokens forms.now)) }
+    ensures { OnOk result (out.new ≡ out.old ++ run_together (map T.tokens forms.now)) }
 {
     for form in forms {
         T::write(alloc, form, out)?;

@@ -2,7 +2,7 @@ use Rattle.std.proofs.Common.{◌≡◌, length, sym, ap, ◌∙◌, subst}
 use Rattle.std.specs.Option.{option_copied}
 use Rattle.frp_graph.specs.Equations.{row}
 use Rattle.frp_core.specs.Small.{IsSmall}
-use Rattle.frp_core.specs.Engine.{sends_at, sees}
+use Rattle.frp_core.specs.Engine.{sends_of_fact, sees}
 use Rattle.frp_core.proofs.Settling.{small_here, settled_more}
 use Rattle.frp_core.proofs.engine.occurrences.Goals as goal
 
@@ -18,7 +18,7 @@ loop-node-preserved c =
     let prog = c.args.prog.now in
     let x = c.node-item.result in
     let sent = option_copied c.args.sent in
-    let r : c.in_ok-occ.occ ≡ row prog (sends_at c.args.place sent) (sees c.args.place c.loop-node.occs) x x.shape =
-    c.in_ok-occ.ensures ∙ ap (λ os. row prog (sends_at c.args.place sent) (sees c.args.place os) x x.shape) c.as_slice.ensures in
+    let r : c.in_ok-occ.occ ≡ row prog (sends_of_fact c.args.place sent) (sees c.args.place c.loop-node.occs) x x.shape =
+    c.in_ok-occ.ensures ∙ ap (λ os. row prog (sends_of_fact c.args.place sent) (sees c.args.place os) x x.shape) c.as_slice.ensures in
     rw c.in_ok-add.ensures.ok
     (settled_more prog c.args.place sent c.args.nodes.now c.loop-node.occs c.in_ok-occ.occ c.loop-node.node-index x c.requires c.loop-node-test.true c.node-item.is c.loop-node.invariant r)

@@ -3,7 +3,7 @@ use Rattle.std.proofs.lemmas.Result.{err_from_is_err_and}
 use Rattle.frp_lex.specs.declared.token.Token.{Token}
 use Rattle.frp_expr.specs.declared.raw.Raw.{Raw}
 use Rattle.frp_expr.specs.declared.raw.RawForm.TheVariants as f
-use Rattle.frp_form.specs.Gives.{Outcome, Parser}
+use Rattle.frp_form.specs.Gives.{FormOutcome, Parser}
 use Rattle.frp_form.specs.Tokens.{after_right}
 use Rattle.frp_form.specs.Lists.{behind}
 use Rattle.frp_form.specs.Heads.{raw_at}
@@ -56,13 +56,13 @@ pub list_of-returns : goal.list_of-returns
 unfolding list_at
 list_of-returns t c =
     let part : Parser Raw = expr_at c.args.end c.args.room in
-    let made : List Raw × List Token → Outcome (Raw × List Token) = λ xs. Ok (raw_at c.args.at (f.List xs.0), xs.1) in
+    let made : List Raw × List Token → FormOutcome (Raw × List Token) = λ xs. Ok (raw_at c.args.at (f.List xs.0), xs.1) in
     rw (c.in_ok-first.ensures, c.in_ok-raw_at.ensures) (one_first c.in_ok-first.first (expr_list c.args.end part 1023 c.in_ok-first.rest.now) made (c.in_ok-all.all, c.in_ok-all.rest.now) (rw c.in_ok-found.ensures at c.in_ok-all.ensures))
 
 pub list_of-returns-in_err-all : goal.list_of-returns-in_err-all
 unfolding list_at
 list_of-returns-in_err-all t c =
     let part : Parser Raw = expr_at c.args.end c.args.room in
-    let made : List Raw × List Token → Outcome (Raw × List Token) = λ xs. Ok (raw_at c.args.at (f.List (c.in_ok-first.first ∷ xs.0)), xs.1) in
+    let made : List Raw × List Token → FormOutcome (Raw × List Token) = λ xs. Ok (raw_at c.args.at (f.List (c.in_ok-first.first ∷ xs.0)), xs.1) in
     let p = err_from_is_err_and c.from_residual-in_err-all.result c.from_residual-in_err-all.ensures.1 in
     rw (p.1, p.2) (rw c.in_ok-first.ensures (first_stops c.in_err-all.field-0.0 c.in_ok-first.first (expr_list c.args.end part 1023 c.in_ok-first.rest.now) made (rw c.in_ok-found.ensures at c.in_err-all.ensures)))

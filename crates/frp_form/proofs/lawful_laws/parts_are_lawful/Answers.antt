@@ -1,5 +1,5 @@
-use Rattle.frp_form.proofs.LawfulReading.{read_is_lawful_lem}
+use Rattle.frp_form.proofs.LawfulReading.{parts_are_lawful_lem}
 use Rattle.frp_form.proofs.lawful_laws.parts_are_lawful.Goals as goal
 
 pub returns : goal.returns
-returns c = read_is_lawful_lem
+returns c = parts_are_lawful_lem

@@ -1,6 +1,6 @@
 use Rattle.std.proofs.Common.{◌≡◌, ◌++◌, drop, map}
-use Rattle.frp_write.specs.Writing.{joined}
+use Rattle.frp_write.specs.Writing.{run_together}
 use Rattle.frp_write.proofs.tokens.write_each.Given as goal
 
 abbrev pub invariant-loop-form : goal.invariant-loop-form
-invariant-loop-form g l = l.out ++ joined (map g.T.Written.tokens (drop l.form-index l.forms)) ≡ l.fn.out ++ joined (map g.T.Written.tokens l.fn.forms)
+invariant-loop-form g l = l.out ++ run_together (map g.T.Written.tokens (drop l.form-index l.forms)) ≡ l.fn.out ++ run_together (map g.T.Written.tokens l.fn.forms)
