@@ -1,26 +1,24 @@
-//! Tries the cases of standard input, one a line: an expression's text in the cases' scope, and what it must come to. The
-//! scope and its values are those of `scope.rt`. There are two kinds of line:
+//! Tries the cases of standard input, one a line: an expression as a graph file has it, in the cases' scope, and what it must
+//! come to. The scope and its values are those of `scope.rt`. There are two kinds of line:
 //!
 //! - `(add a 3) : Int uses 0 = 13` is an expression of type `Int` that uses entry 0 of the scope, and has the value 13 on
 //!   the scope's values. The entries, from 0, are in the order of first use; where there are none, `uses` is left out.
-//! - `(add b 1) ! type 2` is an expression with a first fault of the kind `type` at word 2. Words have numbers from 1, and
-//!   the place of a form is that of its head.
+//! - `(add b 1) ! type 5` is an expression with a first fault of the kind `type` at byte 5 of its text, from 0.
 //!
-//! Types and values are written as `show` writes them. An expression's texts hold no spaces, parentheses, quotes or
-//! backslashes. A line that begins with `#` is a heading. Each case that comes out otherwise is printed with what came
-//! instead, and at the end how many cases there are and how many came out as expected.
+//! Types and values are written as `show` writes them. An expression holds no ` : ` and no ` ! `. A line that begins with `#`
+//! is a heading. Each case that comes out otherwise is printed with what came instead, and at the end how many cases there
+//! are and how many came out as expected.
 #![tactic(auto)]
 
 mod answer;
 mod reader;
 mod scope;
-mod stop;
 
 use answer::answer;
+use frp_base::Memory;
 use scope::{Setting, make_setting};
 use std::alloc::{AllocError, Global};
 use std::io;
-use stop::Stop;
 
 fn main(rt: HostRuntime) -> io::Result<()> {
     let alloc = rt.alloc();
@@ -49,9 +47,9 @@ fn main(rt: HostRuntime) -> io::Result<()> {
 fn outcome(alloc: Global, setting: &Setting, line: &str) -> Result<String, AllocError> {
     let text = expression(line);
     match answer(alloc, setting, text) {
-        Ok(found) => format!(in alloc; "{text} {}", found.as_str()),
-        Err(Stop::Malformed) => format!(in alloc; "{text}, which is no lawful expression"),
-        Err(Stop::Memory) => format!(in alloc; "{text}, for which memory is wanting"),
+        Ok(Some(found)) => format!(in alloc; "{text} {}", found.as_str()),
+        Ok(None) => format!(in alloc; "{text}, which is no expression"),
+        Err(Memory) => format!(in alloc; "{text}, for which memory is wanting"),
     }
 }
 
