@@ -1,6 +1,6 @@
 -- A core stays one as entries are added.
 use Rattle.std.proofs.Common.{◌≡◌, ℕ, ◌+◌, ◌<◌, ◌≤◌, suc, zero, Bool, true, false, List, [], ◌∷◌, ◌++◌, cond, map, length, drop, Option, Some, None, refl, sym, ap, ◌∙◌, subst, arith, inl, inr}
-use Rattle.std.specs.Prelude.{Result, Ok, Err, OnOk, OnErr, is_ok, MatchOption, slice_get, IsSomeAnd, IsSome, is_some, ◌==◌}
+use Rattle.std.specs.Prelude.{Result, Ok, Err, OnErr, is_ok, MatchOption, slice_get, IsSomeAnd, is_some, ◌==◌}
 use Rattle.std.specs.List.{AllByRecursion, list_any, list_all}
 use Rattle.std.proofs.lemmas.Bool.{cases_Bool}
 use Rattle.std.proofs.lemmas.Bool.Decides.{nat_tests}
@@ -18,37 +18,37 @@ use Rattle.frp_graph.specs.Trace.{Sight, live, node_in, sight_of}
 use Rattle.frp_graph.specs.Births.{build, file_plans}
 use Rattle.frp_graph.specs.FirstValues.{AreBorn}
 use Rattle.frp_graph.specs.Moments.{is_of, moments_of, transaction, IsMoment, IsTrace, AtEach}
-use Rattle.frp_graph.specs.WellFormed.{has_typed_first, is_typed_fact, Allows}
+use Rattle.frp_graph.specs.Sends.{sent_in}
+use Rattle.frp_graph.specs.WellFormed.{seen_fits, has_typed_first, is_typed_fact}
 use Rattle.frp_graph.specs.Sound.{IsSoundAfter, KeepsLimits}
 use Rattle.frp_graph.specs.TypedProg.{IsTypedProg}
 use Rattle.frp_graph.specs.Limits.{program_limits}
 use Rattle.frp_graph.proofs.Each.{each_more}
-use Rattle.frp_graph.proofs.Lists.{chosen}
+use Rattle.frp_graph.proofs.Nodes.{each_named}
+use Rattle.frp_graph.proofs.Lists.{chosen, all_follow}
 use Rattle.frp_graph.proofs.Before.{filter_none, live_append}
 use Rattle.frp_graph.proofs.Sending.{NotAt, sent_elsewhere, sent_alone, moments_moved}
 use Rattle.frp_graph.proofs.FileBirths.{file_births, no_births}
 use Rattle.frp_history.specs.declared.history.Key.{Key}
 use Rattle.frp_history.specs.declared.history.Delivered.{Delivered}
 use Rattle.frp_history.specs.declared.history.Cmd.{Cmd}
-use Rattle.frp_history.specs.declared.history.Cmd.TheVariants.{Send, Join, Take, Leave}
+use Rattle.frp_history.specs.declared.history.Cmd.TheVariants.{Send, Join, Take}
 use Rattle.frp_history.specs.declared.history.No.{No}
 use Rattle.frp_history.specs.declared.history.Reply.{Reply}
 use Rattle.frp_history.specs.declared.history.Reply.TheVariants.{Accepted, Refused, Joined, Given, Left}
-use Rattle.frp_history.specs.declared.history.No.TheVariants.{UnknownNode}
 use Rattle.frp_history.specs.declared.history.Entry.{Entry}
-use Rattle.frp_history.specs.History.{is_accepted, accepted_sends, sends_of, entry_at}
+use Rattle.frp_history.specs.History.{sends_of, entry_at}
 use Rattle.frp_history.specs.Windows.{window}
 use Rattle.frp_history.specs.Listeners.{Listener, key_eq, joined_by, is_leave, listener, IsFreeSlot, taken_by, taken_count, rest_of, rest}
-use Rattle.frp_history.specs.Sessions.{Call}
-use Rattle.frp_history.specs.Legal.{no_sink, no_sends, no_node, no_listener, RefusedOr, IsNewKey, IsReply, IsLegal}
+use Rattle.frp_history.specs.Legal.{no_sink, no_sends, no_node, no_listener, RefusedOr, IsNewKey, IsLegal}
 use Rattle.frp_history.proofs.Sendings.{sends_of_more, sends_before}
 use Rattle.frp_history.proofs.Legals.{legal_after}
 use Rattle.frp_core.specs.Small.{is_built, AreSmallFrom}
 use Rattle.frp_core.specs.Nodes.{line_nodes}
-use Rattle.frp_core.specs.Engine.{AreFacts}
-use Rattle.frp_core.specs.Core.{State, times_of, IsSingle, IsPlain, IsPlainEntry, IsCore, IsQuiet, HasRoom, HasAnswered, join_reply, entry_of, with_entry, with_moment}
-use Rattle.frp_core.proofs.Times.{IsBefore, at_place, none_sent, times_before, other_times, all_both, all_mapped, all_follow}
-use Rattle.frp_core.proofs.Settling.{settled_length}
+use Rattle.frp_core.specs.Engine.{sent_to, AreFacts}
+use Rattle.frp_core.specs.Core.{State, times_of, IsSingle, IsPlain, IsPlainEntry, IsCore, IsQuiet, HasRoom, with_entry, with_moment}
+use Rattle.frp_core.proofs.Times.{IsBefore, at_place, none_sent, times_before, other_times, all_both, all_mapped}
+use Rattle.frp_core.proofs.Settling.{settled_length, one_sent}
 use Rattle.frp_core.proofs.Lines.{born, few_nodes}
 use Rattle.frp_core.proofs.NewMoment.{nodes_rise, new_moment}
 use Rattle.frp_core.proofs.Chainless.{chainless, no_execute}
@@ -115,14 +115,11 @@ whole_window trace es key l plain h =
 
 -- Replies that are not refusals.
 
--- the reply to a join of a live node, and of another
+-- the reply to a join of a live node
 pub joins : (c : State) → IsCore c → (o : Option Node) (x : Node) (place : ℕ) → o ≡ Some x → place ≡ length c.entries + 1
     → RefusedOr (no_node o) (IsNewKey c.entries (length c.entries + 1)) (Joined (record { slot = place; place = place }))
 joins c core o x place e q =
     rw (e, q) (refl, free_slot c.entries core.plain)
-
-pub joins_none : (o : Option Node) (P : Reply → Type 0) → o ≡ None → RefusedOr (no_node o) P (Refused UnknownNode)
-joins_none o P e = rw e refl
 
 own_listener : (caller : ℕ) (node : Name) → no_listener caller (Some (record { caller = caller; node = node })) ≡ None
 own_listener caller node = let e : (caller == caller) ≡ true = grind (arith, nat_tests) in rw e refl
@@ -130,10 +127,6 @@ own_listener caller node = let e : (caller == caller) ≡ true = grind (arith, n
 not_refused : (o : Option No) (P : Reply → Type 0) (r : Reply) → o ≡ None → P r → RefusedOr o P r
 not_refused None P r e p = p
 not_refused (Some why) P r e p = absurd cc
-
--- one send is refused for its sink or its value alone
-one_refused : (prog : Prog) (node : Name → Option Node) (f : Fact) (why : No) → no_sink prog node f.value (node f.node) ≡ Some why → no_sends prog node (f ∷ []) ≡ Some why
-one_refused prog node f why h = rw h refl
 
 one_taken : (prog : Prog) (node : Name → Option Node) (f : Fact) → no_sink prog node f.value (node f.node) ≡ None → no_sends prog node (f ∷ []) ≡ None
 one_taken prog node f h = rw h refl
@@ -227,17 +220,21 @@ module _ (c : State) (core : IsCore c) (room : HasRoom c) where
 
     last_moment : IsMoment c.prog (sends_of c.entries ++ s ∷ []) c.trace m
     last_moment = new_moment c.prog (live c.trace) (sends_of c.entries ++ s ∷ []) here (Some f) c.trace m facts.occs refl facts.fired core.small
-        (settled_length c.prog here (Some f) facts.occs (live c.trace) facts.occs facts.settled)
+        (settled_length c.prog here (Some f) [] (live c.trace) facts.occs facts.settled)
         (λ n. sent_alone c.prog (sends_of c.entries) (s ∷ []) (here ∷ []) n not_sent)
         facts.settled (no_births c.prog seen (no_execute seen (live c.trace) finds core.small) not_build) (nodes_rise 0 [] tt) live_stays
 
+    -- what is sent there is the one value
+    one_there : (n : Name) → sent_in c.prog (sends_of c.entries ++ s ∷ []) (here ∷ []) n ≡ sent_to (Some f) n
+    one_there n = sent_alone c.prog (sends_of c.entries) (s ∷ []) (here ∷ []) n not_sent ∙ one_sent c.prog here (Some f) n
+
     fired_typed : list_all (is_typed_fact c.prog seen) fired ≡ true
     fired_typed =
-        let right = nodes_right c.prog core.typed core.built seen (λ n. finds n ∙ ap (λ (xs : List Node). node_in xs n) core.nodes) in
-        let allowed : AllByRecursion (λ x. Allows c.prog seen x.ty x.shape) (live c.trace) = subst (AllByRecursion (λ x. Allows c.prog seen x.ty x.shape)) (sym core.nodes) right.0 in
+        let same : (n : Name) → seen.node n ≡ node_in (line_nodes [] c.prog.body.lines) n = λ n. finds n ∙ ap (λ (xs : List Node). node_in xs n) core.nodes in
         let takes : no_sink c.prog seen.node f.value (seen.node f.node) ≡ None = ap (λ (xs : List Node). no_sink c.prog (node_in xs) f.value (node_in xs f.node)) live_stays ∙ sink in
-        subst (λ (fs : List Fact). list_all (is_typed_fact c.prog seen) fs ≡ true) (sym facts.fired)
-        (typed_facts c.prog seen (live c.trace) here (Some f) facts.occs finds (sent_fits c.prog seen here f takes) core.small allowed facts.settled)
+        typed_facts c.prog core.typed core.built (sends_of c.entries ++ s ∷ []) seen same (λ n. refl)
+        (λ n x e. subst (λ o. seen_fits c.prog seen x o ≡ true) (sym (one_there x.name)) (sent_fits c.prog seen f takes x (ap seen.node (each_named seen (live c.trace) finds n x e) ∙ e)))
+        last_moment.equations fired (λ n. refl) last_moment.facts_of_live last_moment.fired_rise
 
     last_sound : IsSoundAfter c.prog c.trace m
     last_sound = record { firsts = refl; facts = fired_typed; chainless = chainless seen (live c.trace) finds core.small }
@@ -308,11 +305,6 @@ pub entered : (a s : State) → a ≡ s → IsCore a → HasRoom s → (e : Entr
 entered a s v core room e quiet entries q = subst (λ es. IsCore (record { prog = a.prog; entries = es; trace = a.trace })) (sym q)
     (quiet_core a core (subst HasRoom (sym v) room) e (subst (λ c. IsQuiet c e) (sym v) quiet))
 
-pub moment_entered : (a s : State) → a ≡ s → (e : Entry) (m : Moment) → IsCore (with_moment s e m) → (entries : List Entry) (trace : List Moment) → entries ≡ a.entries ++ e ∷ [] → trace ≡ a.trace ++ m ∷ []
-    → IsCore (record { prog = a.prog; entries = entries; trace = trace })
-moment_entered a s v e m core entries trace p q = subst (λ es. IsCore (record { prog = a.prog; entries = es; trace = trace })) (sym p)
-    (subst (λ ts. IsCore (record { prog = a.prog; entries = a.entries ++ e ∷ []; trace = ts })) (sym q) (subst (λ c. IsCore (with_moment c e m)) (sym v) core))
-
 -- where the entry found no memory, the moment was popped again
 moment_popped : (o : Option Moment) (before after : List Moment) (m : Moment) → MatchOption o ((before ++ m ∷ [] ≡ []) × (after ≡ [])) (λ last. before ++ m ∷ [] ≡ after ++ last ∷ []) → after ≡ before
 moment_popped None [] after m h = absurd (let e : m ∷ [] ≡ [] = h.0 in cc)
@@ -343,37 +335,12 @@ pub join_quiet : (c : State) (caller : ℕ) (node : Name) (r : Reply) → Refuse
     → IsQuiet c (record { caller = caller; cmd = Join node; reply = r })
 join_quiet c caller node r h p = record { unsent = none_sent (length c.entries + 1) (Join node) r refl; plain = (tt, p); reply = h }
 
-pub leave_quiet : (c : State) (caller : ℕ) (key : Key) (r : Reply) → RefusedOr (no_listener caller (listener c.entries key)) (λ r. r ≡ Left (rest c.trace c.entries key)) r → IsPlain r
-    → IsQuiet c (record { caller = caller; cmd = Leave key; reply = r })
-leave_quiet c caller key r h p = record { unsent = none_sent (length c.entries + 1) (Leave key) r refl; plain = (tt, p); reply = h }
-
-pub refused_quiet : (c : State) (caller : ℕ) (f : Fact) (why : No) → no_sink c.prog (node_in (live c.trace)) f.value (node_in (live c.trace) f.node) ≡ Some why
-    → IsQuiet c (record { caller = caller; cmd = Send f.node f.value; reply = Refused why })
-refused_quiet c caller f why h = record {
-  unsent = refl;
-  plain = (tt, tt);
-  reply = refused (no_sends c.prog (node_in (live c.trace)) (f ∷ [])) _ why (one_refused c.prog (node_in (live c.trace)) f why h);
-}
-
 -- the reply to a leave
 pub leaves_own : (c : State) → IsCore c → (caller : ℕ) (key : Key) (node : Name) (items : List Delivered) → listener c.entries key ≡ Some (record { caller = caller; node = node })
     → items ≡ window c.trace node key.place → RefusedOr (no_listener caller (listener c.entries key)) (λ r. r ≡ Left (rest c.trace c.entries key)) (Left items)
 leaves_own c core caller key node items h w =
     not_refused (no_listener caller (listener c.entries key)) _ (Left items) (ap (no_listener caller) h ∙ own_listener caller node)
     (ap (λ (ds : List Delivered). Left ds) (w ∙ whole_window c.trace c.entries key (record { caller = caller; node = node }) core.plain h))
-
--- What a call was answered.
-
-pub answered_quiet : (old new : State) (call : Call) (r : Reply) → new ≡ with_entry old (entry_of call r) → HasAnswered old new call
-answered_quiet old new call r e = record { reply = r; entries = ap (λ (s : State). s.entries) e; moments = []; trace = ap (λ (s : State). s.trace) e ∙ sym (append-nil old.trace); quiet = λ q. refl }
-
-pub answered_sent : (old new : State) (call : Call) (n : ℕ) (m : Moment) → new ≡ with_moment old (entry_of call (Accepted n)) m → HasAnswered old new call
-answered_sent old new call n m e = record { reply = Accepted n; entries = ap (λ (s : State). s.entries) e; moments = m ∷ []; trace = ap (λ (s : State). s.trace) e; quiet = λ q. absurd cc }
-
--- a fact of the answer at Ok, from another
-pub on_ok : {T E P Q : Type 0} (r : Result T E) → (P → Q) → OnOk r P → OnOk r Q
-on_ok (Ok x) f h = f h
-on_ok (Err e) f h = tt
 
 -- After the build.
 module _ (prog : Prog) (nodes : List Node) (fired : List Fact) (typed : IsTypedProg prog) (built : is_built prog ≡ true) (few : length prog.body.lines ≤ program_limits.nodes)
@@ -395,19 +362,17 @@ module _ (prog : Prog) (nodes : List Node) (fired : List Fact) (typed : IsTypedP
 
   is_first : IsMoment prog [] [] first_moment
   is_first = new_moment prog nodes [] 0 None [] first_moment facts.occs refl facts.fired small
-      (settled_length prog 0 None facts.occs nodes facts.occs facts.settled) (λ n. refl) facts.settled
+      (settled_length prog 0 None [] nodes facts.occs facts.settled) (λ n. refl) facts.settled
       (file_births prog first_sight (no_execute first_sight nodes first_finds small) nodes refl (subst (AreBorn prog first_sight (file_plans prog)) (sym same) (born prog first_sight built)))
       (nodes_rise 0 nodes small) (append-nil nodes)
 
-  first_right : (AllByRecursion (λ x. Allows prog first_sight x.ty x.shape) nodes) × (list_all (has_typed_first prog first_sight) nodes ≡ true)
-  first_right = subst (λ (xs : List Node). (AllByRecursion (λ x. Allows prog first_sight x.ty x.shape) xs) × (list_all (has_typed_first prog first_sight) xs ≡ true)) (sym same)
-      (nodes_right prog typed built first_sight (λ n. first_finds n ∙ ap (λ (xs : List Node). node_in xs n) same))
+  first_same : (n : Name) → first_sight.node n ≡ node_in (line_nodes [] prog.body.lines) n
+  first_same n = first_finds n ∙ ap (λ (xs : List Node). node_in xs n) same
 
   first_sound : IsSoundAfter prog [] first_moment
   first_sound = record {
-    firsts = first_right.1;
-    facts = subst (λ (fs : List Fact). list_all (is_typed_fact prog first_sight) fs ≡ true) (sym facts.fired)
-        (typed_facts prog first_sight nodes 0 None facts.occs first_finds (λ n y v q r. absurd cc) small first_right.0 facts.settled);
+    firsts = subst (λ (xs : List Node). list_all (has_typed_first prog first_sight) xs ≡ true) (sym same) (nodes_right prog first_sight typed built first_same).firsts;
+    facts = typed_facts prog typed built [] first_sight first_same (λ n. refl) (λ n x e. refl) is_first.equations fired (λ n. refl) is_first.facts_of_live is_first.fired_rise;
     chainless = chainless first_sight nodes first_finds small;
   }
 

@@ -1,6 +1,7 @@
-pub mod Names
 pub mod Times
 pub mod Held
+pub mod Found
+pub mod SmallShapes
 pub mod Settling
 pub mod Sigs
 pub mod Ready
@@ -8,6 +9,6 @@ pub mod Lines
 pub mod Traces
 pub mod NewMoment
 pub mod Chainless
-pub mod TypedFacts
 pub mod WellTyped
+pub mod TypedFacts
 pub mod Cores

@@ -1,7 +1,8 @@
 -- The moment that the plain engine makes is one that the program has.
 use Rattle.std.proofs.Common.{◌≡◌, ℕ, ◌+◌, ◌<◌, suc, zero, true, false, List, [], ◌∷◌, ◌++◌, map, length, Option, Some, None, refl, sym, ap, ◌∙◌, subst, arith, zero-add, add-zero, append_assoc}
-use Rattle.std.specs.Prelude.{slice_get, option_map, option_and_then, is_some}
+use Rattle.std.specs.Prelude.{slice_get, option_and_then, is_some}
 use Rattle.std.specs.List.{AllByRecursion}
+use Rattle.std.proofs.lemmas.List.{length_push}
 use Rattle.std.specs.List.Sorted.{IsStrictlySortedBy}
 use Rattle.std.specs.declared.cmp.Ordering.TheVariants.{Less}
 use Rattle.frp_base.specs.declared.name.Name.{Name}
@@ -11,19 +12,20 @@ use Rattle.frp_graph.specs.declared.trace.Node.{Node}
 use Rattle.frp_graph.specs.declared.trace.Fact.{Fact}
 use Rattle.frp_graph.specs.declared.trace.Moment.{Moment}
 use Rattle.frp_graph.specs.declared.prog.Prog.{Prog}
-use Rattle.frp_graph.specs.declared.shape.Shape.{Shape}
-use Rattle.frp_graph.specs.declared.shape.Shape.TheVariants.{Sink, Never, Map, Filter, Hold}
-use Rattle.frp_graph.specs.Trace.{or_else, fact_in, node_in, live, occ, sight_of}
+use Rattle.frp_graph.specs.Trace.{fact_in, node_in, live, occ, occ_above, sight_of}
 use Rattle.frp_graph.specs.declared.trace.Sent.{Sent}
 use Rattle.frp_graph.specs.Sends.{sent_in}
-use Rattle.frp_graph.specs.Equations.{row, MeetsEquation}
+use Rattle.frp_graph.specs.Equations.{MeetsEquation}
 use Rattle.frp_graph.specs.FirstValues.{AreExactly}
 use Rattle.frp_graph.specs.Moments.{IsMoment}
-use Rattle.frp_graph.proofs.Nodes.{found_joined, each_holds}
-use Rattle.frp_core.specs.Small.{IsEarlier, IsSmall, AreSmallFrom}
+use Rattle.frp_graph.proofs.Nodes.{each_holds}
+use Rattle.frp_core.specs.Small.{IsEarlier, AreSmallFrom}
 use Rattle.frp_core.specs.Engine.{sends_of_fact, occ_at, sees, AreSettled, facts_of}
-use Rattle.frp_core.proofs.Names.{name_same, declared_differs, declared_less}
+use Rattle.frp_graph.proofs.Lists.{name_eq-same, all_follow}
+use Rattle.frp_graph.proofs.FileBirths.{declared_less}
 use Rattle.frp_core.proofs.Times.{all_mapped}
+use Rattle.frp_core.proofs.Found.{declared_differs, each_found}
+use Rattle.frp_core.proofs.SmallShapes.{row_small}
 
 -- The facts of nodes in order, looked up by their names.
 
@@ -45,7 +47,7 @@ fact_found k i [] (o ∷ os) h s = absurd (omega arith)
 fact_found k i (x ∷ xs) [] h s = absurd (omega arith)
 fact_found k zero (x ∷ xs) (None ∷ os) h s = no_fact (k + 1) (k + 0) xs os (omega arith) s.2
 fact_found k zero (x ∷ xs) (Some v ∷ os) h s =
-    let e : name_eq x.name (declared_name (k + 0)) ≡ true = ap (λ n. name_eq n (declared_name (k + 0))) (s.0 ∙ ap declared_name (sym (add-zero k))) ∙ name_same (declared_name (k + 0)) in
+    let e : name_eq x.name (declared_name (k + 0)) ≡ true = ap (λ n. name_eq n (declared_name (k + 0))) (s.0 ∙ ap declared_name (sym (add-zero k))) ∙ name_eq-same (declared_name (k + 0)) in
     rw e refl
 fact_found k (suc i) (x ∷ xs) (None ∷ os) h s =
     let q : k + suc i ≡ (k + 1) + i = omega arith in
@@ -90,21 +92,16 @@ facts_rise k (x ∷ xs) (Some v ∷ os) s = (
   facts_rise (k + 1) xs os s.2,
 )
 
--- Each node is found by its name.
+-- What is first in a list stays so in a longer one.
 
-some_either : (a : Option Node) (x : Node) → is_some (or_else a (Some x)) ≡ true
-some_either None x = refl
-some_either (Some y) x = refl
+get_front : {A : Type 0} (xs ys : List A) (j : ℕ) → j < length xs → slice_get (xs ++ ys) j ≡ slice_get xs j
+get_front [] ys j h = absurd (omega arith)
+get_front (x ∷ xs) ys zero h = refl
+get_front (x ∷ xs) ys (suc j) h = get_front xs ys j (omega arith)
 
-found_after : (front xs : List Node) → AllByRecursion (λ x. is_some (node_in (front ++ xs) x.name) ≡ true) xs
-found_after front [] = tt
-found_after front (x ∷ xs) = (
-  ap is_some (found_joined front (x ∷ xs) x.name ∙ ap (or_else (node_in front x.name)) (rw (name_same x.name) refl)) ∙ some_either (node_in front x.name) x,
-  subst (λ ys. AllByRecursion (λ z. is_some (node_in ys z.name) ≡ true) xs) (append_assoc front (x ∷ []) xs) (found_after (front ++ x ∷ []) xs),
-)
-
-pub found_all : (xs : List Node) → AllByRecursion (λ x. is_some (node_in xs x.name) ≡ true) xs
-found_all xs = found_after [] xs
+get_next : {A : Type 0} (xs : List A) (y : A) (ys : List A) → slice_get (xs ++ y ∷ ys) (length xs) ≡ Some y
+get_next [] y ys = refl
+get_next (x ∷ xs) y ys = get_next xs y ys
 
 -- The equations.
 
@@ -115,36 +112,33 @@ module _ (prog : Prog) (nodes : List Node) (sends : List Sent) (place : ℕ) (se
   found : (i : ℕ) → occ m (declared_name i) ≡ flat (slice_get occs i)
   found i = ap (λ fs. fact_in fs (declared_name i)) fired ∙ ap (λ j. fact_in (facts_of nodes occs) (declared_name j)) (sym (zero-add i)) ∙ fact_found 0 i nodes occs same small
 
-  seen : (k : ℕ) (n : Name) → IsEarlier k n → occ m n ≡ occ_at occs n
-  seen k n e = ap (occ m) e.1.1 ∙ found e.0 ∙ ap (λ j. flat (slice_get occs j)) (sym (ap item_of e.1.1))
+  -- what is seen of earlier nodes is what the engine sees of them
+  seen : (before rest : List (Option Val)) → occs ≡ before ++ rest → (n : Name) → IsEarlier (length before) n → occ m n ≡ occ_at before n
+  seen before rest e n i =
+      ap (occ m) i.1.1 ∙ found i.0 ∙ ap flat (ap (λ os. slice_get os i.0) e ∙ get_front before rest i.0 i.1.0) ∙ ap (λ j. flat (slice_get before j)) (sym (ap item_of i.1.1))
 
-  row_seen : (k : ℕ) (x : Node) (s : Shape) → IsSmall k s → row prog sends (sight_of past m) x s ≡ row prog (sends_of_fact place sent) (sees place occs) x s
-  row_seen k x Sink h = ap (λ t. sent_in prog sends t x.name) time ∙ agree x.name
-  row_seen k x Never h = refl
-  row_seen k x (Map f s) h = ap (option_map _) (seen k s h)
-  row_seen k x (Filter f s) h = ap (option_and_then _) (seen k s h)
-  row_seen k x (Hold s) h = seen k s h
-  row_seen k x _ h = absurd h
+  meets_from : (before : List (Option Val)) (xs : List Node) (os : List (Option Val)) → occs ≡ before ++ os → AreSmallFrom (length before) xs → AreSettled prog place sent before xs os
+      → AllByRecursion (MeetsEquation prog sends (sight_of past m)) xs
+  meets_from before [] os e s a = tt
+  meets_from before (x ∷ xs) [] e s a = absurd a
+  meets_from before (x ∷ xs) (o ∷ os) e s a =
+      let here : occ m x.name ≡ o = ap (occ m) s.0 ∙ found (length before) ∙ ap flat (ap (λ os. slice_get os (length before)) e ∙ get_next before o os) in
+      let r = row_small prog (sends_of_fact place sent) sends (sees place before) (sight_of past m) (length before) x s.0 s.1 time (seen before (o ∷ os) e) (λ n v q. absurd cc)
+      (λ n. ap (λ t. occ_above past t n) time) (agree x.name) in (
+        here ∙ a.0 ∙ sym r,
+        meets_from (before ++ o ∷ []) xs os (e ∙ sym (append_assoc before (o ∷ []) os)) (subst (λ k. AreSmallFrom k xs) (sym (length_push before o)) s.2) a.1,
+      )
 
-  meets_from : (k : ℕ) (xs : List Node) (ys : List (Option Val)) → AreSmallFrom k xs → AreSettled prog place sent occs xs ys
-      → ((i : ℕ) → occ m (declared_name (k + i)) ≡ flat (slice_get ys i)) → AllByRecursion (MeetsEquation prog sends (sight_of past m)) xs
-  meets_from k [] ys s a f = tt
-  meets_from k (x ∷ xs) [] s a f = absurd a
-  meets_from k (x ∷ xs) (y ∷ ys) s a f = (
-    ap (occ m) (s.0 ∙ ap declared_name (sym (add-zero k))) ∙ f 0 ∙ a.0 ∙ sym (row_seen k x x.shape s.1),
-    meets_from (k + 1) xs ys s.2 a.1 (λ i. let q : (k + 1) + i ≡ k + suc i = omega arith in ap (λ j. occ m (declared_name j)) q ∙ f (suc i)),
-  )
-
-  pub new_moment : AreSettled prog place sent occs nodes occs → AreExactly prog (sight_of past m) m.born → IsStrictlySortedBy name_cmp (map (λ x. x.name) m.born)
+  pub new_moment : AreSettled prog place sent [] nodes occs → AreExactly prog (sight_of past m) m.born → IsStrictlySortedBy name_cmp (map (λ x. x.name) m.born)
       → live (past ++ m ∷ []) ≡ nodes → IsMoment prog sends past m
   new_moment a b r l = record {
     born_exactly = b;
     equations = each_holds (sight_of past m) nodes (λ n. ap (λ (xs : List Node). node_in xs n) l) (MeetsEquation prog sends (sight_of past m))
-        (meets_from 0 nodes occs small a (λ i. ap (λ j. occ m (declared_name j)) (zero-add i) ∙ found i));
+        (meets_from [] nodes occs refl small a);
     facts_of_live = subst (λ nodes. AllByRecursion (λ f. is_some (node_in nodes f.node) ≡ true) m.fired) (sym l)
         (subst (AllByRecursion (λ f. is_some (node_in nodes f.node) ≡ true)) (sym fired)
         (all_mapped (λ f. f.node) (λ n. is_some (node_in nodes n) ≡ true) (facts_of nodes occs)
-        (facts_all (λ n. is_some (node_in nodes n) ≡ true) nodes occs (found_all nodes))));
+        (facts_all (λ n. is_some (node_in nodes n) ≡ true) nodes occs (all_follow _ _ (λ x e. ap is_some e) nodes (each_found 0 nodes small)))));
     born_rise = r;
     fired_rise = subst (λ fs. IsStrictlySortedBy name_cmp (map (λ f. f.node) fs)) (sym fired) (facts_rise 0 nodes occs small);
   }

@@ -1,5 +1,5 @@
 -- The times of a history's sends: they rise, and each is of one number, below the next place.
-use Rattle.std.proofs.Common.{◌≡◌, ℕ, ◌+◌, ◌<◌, ◌≤◌, Bool, true, false, List, [], ◌∷◌, ◌++◌, map, length, refl, sym, ap, ◌∙◌, subst, arith}
+use Rattle.std.proofs.Common.{◌≡◌, ◌⊎◌, ℕ, ◌+◌, ◌<◌, ◌≤◌, Bool, true, false, List, [], ◌∷◌, ◌++◌, map, length, refl, sym, ap, ◌∙◌, subst, arith, inl, inr}
 use Rattle.std.specs.Prelude.{◌==◌, if◌then◌else◌}
 use Rattle.std.specs.List.{AllByRecursion}
 use Rattle.std.specs.List.Sorted.{IsStrictlySortedBy}
@@ -9,14 +9,15 @@ use Rattle.std.proofs.lemmas.Bool.Decides.{nat_tests}
 use Rattle.frp_base.specs.declared.time.Time.{Time}
 use Rattle.frp_base.specs.Time.{time_cmp, time_eq}
 use Rattle.frp_history.specs.declared.history.Cmd.{Cmd}
-use Rattle.frp_history.specs.declared.history.Cmd.TheVariants.{Send, Group, Join, Take, Leave}
+use Rattle.frp_history.specs.declared.history.Cmd.TheVariants.{Send, Group}
 use Rattle.frp_history.specs.declared.history.Reply.{Reply}
-use Rattle.frp_history.specs.declared.history.Reply.TheVariants.{Accepted, Refused, Joined, Given, Left}
+use Rattle.frp_history.specs.declared.history.Reply.TheVariants.{Accepted}
 use Rattle.frp_history.specs.declared.history.Entry.{Entry}
 use Rattle.frp_graph.specs.declared.trace.Moment.{Moment}
 use Rattle.frp_graph.specs.declared.trace.Sent.{Sent}
 use Rattle.frp_history.specs.History.{sent_by, is_accepted, sends_at, accepted_sends, sends_from}
 use Rattle.frp_graph.specs.Births.{build}
+use Rattle.frp_graph.proofs.Lists.{all_follow}
 use Rattle.frp_core.specs.Core.{times_of, IsSingle}
 
 -- what holds of each holds of each of two lists, and of what they are mapped to
@@ -32,10 +33,6 @@ all_left P (x ∷ xs) ys h = (h.0, all_left P xs ys h.1)
 pub all_right : {A : Type 0} (P : A → Type 0) (xs ys : List A) → AllByRecursion P (xs ++ ys) → AllByRecursion P ys
 all_right P [] ys h = h
 all_right P (x ∷ xs) ys h = all_right P xs ys h.1
-
-pub all_follow : {A : Type 0} (P Q : A → Type 0) → ((x : A) → P x → Q x) → (xs : List A) → AllByRecursion P xs → AllByRecursion Q xs
-all_follow P Q f [] h = tt
-all_follow P Q f (x ∷ xs) h = (f x h.0, all_follow P Q f xs h.1)
 
 pub all_mapped : {A B : Type 0} (f : A → B) (P : B → Type 0) (xs : List A) → AllByRecursion P (map f xs) → AllByRecursion (λ x. P (f x)) xs
 all_mapped f P [] h = tt
@@ -60,17 +57,16 @@ none_sent k c r e = by (is_accepted r) where
   by true = ap (sends_at k 0) e
   by false = refl
 
+-- a command that is no group sends nothing, or one value
+one_or_none : (k : ℕ) (c : Cmd) (r : Reply) → IsSingle c → (accepted_sends k c r ≡ []) ⊎ ((s : Sent) × (accepted_sends k c r ≡ s ∷ []) × (at_place s ≡ k ∷ []))
+one_or_none k (Send n v) (Accepted m) single = inr (record { place = k; part = 0; sink = n; value = v }, refl, refl)
+one_or_none k (Send n v) _ single = inl refl
+one_or_none k (Group sends) r single = absurd single
+one_or_none k c r single = inl (none_sent k c r refl)
+
 module _ (P : Time → Type 0) where
   send_and : (k : ℕ) (c : Cmd) (r : Reply) (rest : List Sent) → IsSingle c → P (k ∷ []) → AllByRecursion P (map at_place rest) → AllByRecursion P (map at_place (accepted_sends k c r ++ rest))
-  send_and k (Send s v) (Accepted n) rest single h a = (h, a)
-  send_and k (Group sends) r rest single h a = absurd single
-  send_and k (Send s v) (Refused why) rest single h a = a
-  send_and k (Send s v) (Joined key) rest single h a = a
-  send_and k (Send s v) (Given items) rest single h a = a
-  send_and k (Send s v) (Left items) rest single h a = a
-  send_and k (Join n) r rest single h a = subst (λ (ss : List Sent). AllByRecursion P (map at_place (ss ++ rest))) (sym (none_sent k (Join n) r refl)) a
-  send_and k (Take key max) r rest single h a = subst (λ (ss : List Sent). AllByRecursion P (map at_place (ss ++ rest))) (sym (none_sent k (Take key max) r refl)) a
-  send_and k (Leave key) r rest single h a = subst (λ (ss : List Sent). AllByRecursion P (map at_place (ss ++ rest))) (sym (none_sent k (Leave key) r refl)) a
+  send_and k c r rest single h a = elim (one_or_none k c r single) [ inl e ↦ rw e a | inr s ↦ rw s.1 (subst P (sym s.2) h, a) ]
 
   -- a fact of the times of all places from k up to but not including n
   pub sends_all : (k n : ℕ) (es : List Entry) → AllByRecursion (λ e. IsSingle e.cmd) es → k + length es ≤ n → ((j : ℕ) → k ≤ j → j < n → P (j ∷ [])) → AllByRecursion P (map at_place (sends_from k es))
@@ -81,15 +77,10 @@ module _ (P : Time → Type 0) where
 send_rise : (k : ℕ) (c : Cmd) (r : Reply) (rest : List Sent) → IsSingle c → AllByRecursion (λ u. time_cmp (k ∷ []) u ≡ Less) (map at_place rest)
     → IsStrictlySortedBy time_cmp (map at_place rest) → IsStrictlySortedBy time_cmp (map at_place (accepted_sends k c r ++ rest))
 unfolding IsStrictlySortedBy
-send_rise k (Send s v) (Accepted n) rest single h a = (h, a)
-send_rise k (Group sends) r rest single h a = absurd single
-send_rise k (Send s v) (Refused why) rest single h a = a
-send_rise k (Send s v) (Joined key) rest single h a = a
-send_rise k (Send s v) (Given items) rest single h a = a
-send_rise k (Send s v) (Left items) rest single h a = a
-send_rise k (Join n) r rest single h a = subst (λ (ss : List Sent). IsStrictlySortedBy time_cmp (map at_place (ss ++ rest))) (sym (none_sent k (Join n) r refl)) a
-send_rise k (Take key max) r rest single h a = subst (λ (ss : List Sent). IsStrictlySortedBy time_cmp (map at_place (ss ++ rest))) (sym (none_sent k (Take key max) r refl)) a
-send_rise k (Leave key) r rest single h a = subst (λ (ss : List Sent). IsStrictlySortedBy time_cmp (map at_place (ss ++ rest))) (sym (none_sent k (Leave key) r refl)) a
+send_rise k c r rest single h a = elim (one_or_none k c r single) [
+  | inl e ↦ rw e a
+  | inr s ↦ rw s.1 (subst (λ t. AllByRecursion (λ u. time_cmp t u ≡ Less) (map at_place rest)) (sym s.2) h, a)
+]
 
 sends_rise : (k : ℕ) (es : List Entry) → AllByRecursion (λ e. IsSingle e.cmd) es → IsStrictlySortedBy time_cmp (map at_place (sends_from k es))
 unfolding IsStrictlySortedBy

@@ -9,17 +9,17 @@ use Rattle.frp_base.specs.Time.{time_eq, time_cmp, parent_and_number}
 use Rattle.frp_graph.specs.declared.trace.Node.{Node}
 use Rattle.frp_graph.specs.declared.trace.Moment.{Moment}
 use Rattle.frp_graph.specs.declared.prog.Prog.{Prog}
-use Rattle.frp_graph.specs.declared.shape.Shape.{Shape}
-use Rattle.frp_graph.specs.declared.shape.Shape.TheVariants.{Sink, Never, Map, Filter, Hold}
 use Rattle.frp_history.specs.declared.history.Entry.{Entry}
 use Rattle.frp_graph.specs.declared.trace.Sent.{Sent}
 use Rattle.frp_graph.specs.Trace.{live, moment_at}
 use Rattle.frp_graph.specs.Births.{build}
 use Rattle.frp_graph.specs.Moments.{items_to_split, splits_at, live_at, is_child_due, is_due, IsMoment, IsTrace, AtEach}
 use Rattle.frp_history.specs.History.{sends_of}
-use Rattle.frp_core.specs.Small.{IsSmall, AreSmallFrom}
+use Rattle.frp_core.specs.Small.{AreSmallFrom}
 use Rattle.frp_core.specs.Core.{times_of, IsSingle}
-use Rattle.frp_core.proofs.Times.{at_place, times_rise, all_left, all_right, all_both, all_follow}
+use Rattle.frp_graph.proofs.Lists.{all_follow}
+use Rattle.frp_core.proofs.Times.{at_place, times_rise, all_left, all_right, all_both}
+use Rattle.frp_core.proofs.SmallShapes.{no_items}
 
 -- Due times.
 
@@ -39,20 +39,12 @@ any_none : {A : Type 0} (p : A → Bool) (xs : List A) → AllByRecursion (λ x.
 any_none p [] h = refl
 any_none p (x ∷ xs) h = rw h.0 (any_none p xs h.1)
 
-no_items : (m : Moment) (k : ℕ) (s : Shape) → IsSmall k s → items_to_split m s ≡ 0
-no_items m k Sink h = refl
-no_items m k Never h = refl
-no_items m k (Map f s) h = refl
-no_items m k (Filter f s) h = refl
-no_items m k (Hold s) h = refl
-no_items m k _ h = absurd h
-
 abbrev SplitsNothing : Node → Type 0
 SplitsNothing x = (m : Moment) (i : ℕ) → nat_lt i (items_to_split m x.shape) ≡ false
 
 none_split : (k : ℕ) (xs : List Node) → AreSmallFrom k xs → AllByRecursion SplitsNothing xs
 none_split k [] s = tt
-none_split k (x ∷ xs) s = ((λ m i. ap (nat_lt i) (no_items m k x.shape s.1) ∙ (let e : nat_lt i 0 ≡ false = grind (arith, nat_tests) in e)), none_split (k + 1) xs s.2)
+none_split k (x ∷ xs) s = ((λ m i. ap (nat_lt i) (no_items m x.shape s.1.0) ∙ (let e : nat_lt i 0 ≡ false = grind (arith, nat_tests) in e)), none_split (k + 1) xs s.2)
 
 live_some : (P : Node → Type 0) (p : Moment → Bool) (ms : List Moment) → AllByRecursion P (live ms) → AllByRecursion P (live (filter p ms))
 live_some P p [] h = tt

@@ -1,5 +1,5 @@
 -- What the plain engine makes of a moment: an occurrence or none for each node, in the order of the nodes.
-use Rattle.std.specs.Prelude.{◌≡◌, ℕ, List, [], ◌∷◌, Option, Some, None, option_and_then, slice_get, if◌then◌else◌, ⊤}
+use Rattle.std.specs.Prelude.{◌≡◌, ℕ, List, [], ◌∷◌, ◌++◌, Option, Some, None, option_and_then, slice_get, if◌then◌else◌, ⊤}
 use Rattle.frp_base.specs.declared.name.Name.{Name}
 use Rattle.frp_base.specs.declared.val.Val.{Val}
 use Rattle.frp_base.specs.Name.{name_eq, item_of}
@@ -28,11 +28,11 @@ occ_at occs n = option_and_then (λ (o : Option Val). o) (slice_get occs (item_o
 abbrev pub sees : ℕ → List (Option Val) → Sight
 sees place occs = record { time = place ∷ []; node = λ n. None; occ = occ_at occs; pre = λ n. None; above = λ n. None }
 
--- each node's occurrence is the one of its row, where all the occurrences are seen
+-- each node's occurrence is the one of its row, where the occurrences before it are seen
 abbrev pub AreSettled : Prog → ℕ → Option Fact → List (Option Val) → List Node → List (Option Val) → Type 0
-AreSettled prog place sent all [] [] = ⊤
-AreSettled prog place sent all (x ∷ xs) (o ∷ os) = (o ≡ row prog (sends_of_fact place sent) (sees place all) x x.shape) × (AreSettled prog place sent all xs os)
-AreSettled prog place sent all _ _ = ⊥
+AreSettled prog place sent before [] [] = ⊤
+AreSettled prog place sent before (x ∷ xs) (o ∷ os) = (o ≡ row prog (sends_of_fact place sent) (sees place before) x x.shape) × (AreSettled prog place sent (before ++ o ∷ []) xs os)
+AreSettled prog place sent before _ _ = ⊥
 
 -- the facts of the nodes that have an occurrence
 abbrev pub facts_of : List Node → List (Option Val) → List Fact
@@ -43,5 +43,5 @@ facts_of _ _ = []
 -- these are the facts of these nodes at the moment
 pub record AreFacts (prog : Prog) (nodes : List Node) (place : ℕ) (sent : Option Fact) (facts : List Fact) : Type 0 where
   pub occs : List (Option Val)
-  pub settled : AreSettled prog place sent occs nodes occs
+  pub settled : AreSettled prog place sent [] nodes occs
   pub fired : facts ≡ facts_of nodes occs

@@ -6,10 +6,9 @@ use Rattle.frp_base.specs.Name.{declared_name}
 use Rattle.frp_graph.specs.declared.prog.Line3.{Line3}
 use Rattle.frp_graph.specs.declared.prog.Line3.TheVariants as line
 use Rattle.frp_graph.specs.declared.prog.LineShape.{LineShape}
-use Rattle.frp_graph.specs.declared.prog.LineShape.TheVariants.{Sink, Never, Map, Filter, Hold}
 use Rattle.frp_graph.specs.declared.trace.Node.{Node}
-use Rattle.frp_graph.specs.Births.{reference, node_of, shape_of, given_by}
-use Rattle.frp_core.specs.Small.{IsEarlier}
+use Rattle.frp_graph.specs.Births.{reference, shape_of, given_by}
+use Rattle.frp_core.specs.Small.{IsSmall}
 
 -- the node of a line of this type and shape
 abbrev pub line_node : List Val → Ty → LineShape → Node
@@ -25,17 +24,8 @@ line_nodes refs [] = []
 line_nodes refs (line.Node ty shape ∷ ls) = line_node refs ty shape ∷ line_nodes (with_next_reference refs ty) ls
 line_nodes refs (line.Get c ∷ ls) = []
 
--- each operand of a shape that is built refers to an earlier node
-abbrev pub IsReady : List Val → LineShape → Type 0
-IsReady refs Sink = ⊤
-IsReady refs Never = ⊤
-IsReady refs (Map f s) = IsEarlier (length refs) (node_of refs s)
-IsReady refs (Filter f s) = IsEarlier (length refs) (node_of refs s)
-IsReady refs (Hold o s) = IsEarlier (length refs) (node_of refs s)
-IsReady refs _ = ⊥
-
--- so it is for each of these lines
+-- the node of each of these lines reads nodes of the lines before it
 abbrev pub AreReady : List Val → List Line3 → Type 0
 AreReady refs [] = ⊤
-AreReady refs (line.Node ty shape ∷ ls) = IsReady refs shape × AreReady (with_next_reference refs ty) ls
+AreReady refs (line.Node ty shape ∷ ls) = IsSmall (length refs) (shape_of refs refs shape) × AreReady (with_next_reference refs ty) ls
 AreReady refs (line.Get c ∷ ls) = ⊥

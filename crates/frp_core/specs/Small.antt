@@ -1,7 +1,7 @@
 -- The programs that are run so far: each line makes a node of a shape that is built. What they make: node k is that of item
 -- k, and reads earlier nodes only.
-use Rattle.std.specs.Prelude.{◌≡◌, ℕ, ◌+◌, ◌<◌, Bool, true, false, List, [], ◌∷◌, length, ⊤}
-use Rattle.std.specs.List.{list_all}
+use Rattle.std.specs.Prelude.{◌≡◌, ℕ, ◌+◌, ◌<◌, Bool, true, false, List, [], ◌∷◌, IsTrue, ⊤}
+use Rattle.std.specs.List.{AllByRecursion, list_all}
 use Rattle.frp_base.specs.declared.name.Name.{Name}
 use Rattle.frp_base.specs.Name.{declared_name}
 use Rattle.frp_graph.specs.declared.prog.Prog.{Prog}
@@ -12,6 +12,7 @@ use Rattle.frp_graph.specs.declared.prog.LineShape.TheVariants as l
 use Rattle.frp_graph.specs.declared.shape.Shape.{Shape}
 use Rattle.frp_graph.specs.declared.shape.Shape.TheVariants.{Sink, Never, Map, Filter, Hold}
 use Rattle.frp_graph.specs.declared.trace.Node.{Node}
+use Rattle.frp_graph.specs.Links.{operands}
 
 -- whether a line makes a node of a shape that is built
 abbrev pub is_built_shape : LineShape → Bool
@@ -34,14 +35,18 @@ is_built prog = list_all is_built_line prog.body.lines
 abbrev pub IsEarlier : ℕ → Name → Type 0
 IsEarlier k n = (j : ℕ) × ((j < k) × (n ≡ declared_name j))
 
--- the node of item k with this shape reads earlier nodes
+-- whether a shape is that of such a line's node
+abbrev pub is_small_shape : Shape → Bool
+is_small_shape Sink = true
+is_small_shape Never = true
+is_small_shape (Map f s) = true
+is_small_shape (Filter f s) = true
+is_small_shape (Hold s) = true
+is_small_shape _ = false
+
+-- the node of item k may have this shape: it is one of those, and each of its operands is an earlier node
 abbrev pub IsSmall : ℕ → Shape → Type 0
-IsSmall k Sink = ⊤
-IsSmall k Never = ⊤
-IsSmall k (Map f s) = IsEarlier k s
-IsSmall k (Filter f s) = IsEarlier k s
-IsSmall k (Hold s) = IsEarlier k s
-IsSmall k _ = ⊥
+IsSmall k s = IsTrue (is_small_shape s) × AllByRecursion (IsEarlier k) (operands s)
 
 -- nodes of which the first is that of item k
 abbrev pub AreSmallFrom : ℕ → List Node → Type 0

@@ -38,7 +38,7 @@ fn occurrences(
     sent: Option<&Fact>,
 ) -> Result<Seq<Option<Val>>, Memory>
     requires { AreSmallFrom 0 nodes.now }
-    ensures { IfOk result (λ os. AreSettled prog.now place (option_copied sent.entry) os nodes.now os) }
+    ensures { IfOk result (λ os. AreSettled prog.now place (option_copied sent.entry) [] nodes.now os) }
 {
     let mut occs = Seq::new(alloc);
     for node in nodes {

@@ -5,8 +5,8 @@ ghost use Rattle.frp_base.specs.Name.{declared_name};
 ghost use Rattle.frp_expr.specs.Parts.{zero_val};
 ghost use Rattle.frp_graph.specs.TypedProg.{IsTypedProg};
 ghost use Rattle.frp_graph.specs.Births.{reference, lam_of, node_of, shape_of, given_by};
-ghost use Rattle.frp_core.specs.Small.{is_built, IsEarlier, AreSmallFrom};
-ghost use Rattle.frp_core.specs.Nodes.{line_node, with_next_reference, line_nodes, IsReady, AreReady};
+ghost use Rattle.frp_core.specs.Small.{is_built, IsEarlier, IsSmall, AreSmallFrom};
+ghost use Rattle.frp_core.specs.Nodes.{line_node, line_nodes, AreReady};
 
 use frp_base::{Memory, Name, Seq, Ty, Val};
 use frp_expr::eval;
@@ -50,7 +50,7 @@ fn add_node(
     shape: &LineShape,
     nodes: &mut Seq<Node>,
 ) -> Result<(), Memory>
-    requires { IsReady refs.now shape.now }
+    requires { IsSmall (length refs.now) (shape_of refs.now refs.now shape.now) }
     ensures { OnOk result (nodes.new ≡ nodes.old ++ line_node refs.now ty.now shape.now ∷ []) }
 {
     let node = node(alloc, refs, ty, shape)?;
@@ -67,7 +67,7 @@ fn add_reference(alloc: Global, ty: &Ty, refs: &mut Seq<Val>) -> Result<(), Memo
 
 /// The node of a line of this type and shape, over references to the nodes of the lines before it.
 fn node(alloc: Global, refs: &[Val], ty: &Ty, shape: &LineShape) -> Result<Node, Memory>
-    requires { IsReady refs.now shape.now }
+    requires { IsSmall (length refs.now) (shape_of refs.now refs.now shape.now) }
     ensures { IfOk result (λ node. node ≡ line_node refs.now ty.now shape.now) }
 {
     let name = Name::declared(alloc, refs.len() as u64)?;
@@ -95,7 +95,7 @@ fn reference(ty: &Ty, name: Name) -> Val
 
 /// The shape of a line, with its operands.
 fn node_shape(alloc: Global, refs: &[Val], shape: &LineShape) -> Result<Shape, Memory>
-    requires { IsReady refs.now shape.now }
+    requires { IsSmall (length refs.now) (shape_of refs.now refs.now shape.now) }
     ensures { IfOk result (λ s. s ≡ shape_of refs.now refs.now shape.now) }
 {
     match shape {

@@ -11,7 +11,7 @@ occurrence-requires c =
     let prog = c.args.prog.now in
     let x = c.node-item.result in
     subst (λ os. IsSmall (length os) x.shape) (sym c.as_slice.ensures)
-    (small_here prog c.args.place (option_copied c.args.sent) c.args.nodes.now c.loop-node.occs c.loop-node.node-index x c.requires c.loop-node-test.true c.node-item.is c.loop-node.invariant)
+    (small_here prog c.args.place (option_copied c.args.sent) c.args.nodes.now c.loop-node.occs c.loop-node.node-index x c.loop-node-test.true c.node-item.is c.loop-node.invariant c.requires)
 
 pub loop-node-preserved : goal.loop-node-preserved
 loop-node-preserved c =
@@ -21,4 +21,4 @@ loop-node-preserved c =
     let r : c.in_ok-occ.occ ≡ row prog (sends_of_fact c.args.place sent) (sees c.args.place c.loop-node.occs) x x.shape =
     c.in_ok-occ.ensures ∙ ap (λ os. row prog (sends_of_fact c.args.place sent) (sees c.args.place os) x x.shape) c.as_slice.ensures in
     rw c.in_ok-add.ensures.ok
-    (settled_more prog c.args.place sent c.args.nodes.now c.loop-node.occs c.in_ok-occ.occ c.loop-node.node-index x c.requires c.loop-node-test.true c.node-item.is c.loop-node.invariant r)
+    (settled_more prog c.args.place sent c.args.nodes.now c.loop-node.occs c.loop-node.node-index x c.loop-node-test.true c.node-item.is c.loop-node.invariant c.in_ok-occ.occ r)

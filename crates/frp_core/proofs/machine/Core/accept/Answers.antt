@@ -3,7 +3,7 @@ use Rattle.std.proofs.Math.Path.{transport}
 use Rattle.frp_graph.specs.Trace.{live}
 use Rattle.frp_core.specs.Core.{State, IsCore}
 use Rattle.frp_core.specs.Engine.{AreFacts}
-use Rattle.frp_core.proofs.Cores.{on_ok, answered_sent, sent_core}
+use Rattle.frp_core.proofs.Cores.{sent_core}
 use Rattle.frp_core.proofs.machine.Core.accept.Goals as goal
 
 pub enter_moment-requires : goal.enter_moment-requires
