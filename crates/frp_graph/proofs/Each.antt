@@ -16,8 +16,3 @@ module _ (P : List Moment → Moment → Type 0) where
   pub each_last : (past ms : List Moment) (m : Moment) → AtEach P past (ms ++ m ∷ []) → P (past ++ ms) m
   each_last past [] m h = subst (λ k. P k m) (sym (append-nil past)) h.0
   each_last past (k ∷ ms) m h = subst (λ k. P k m) (append_assoc past (k ∷ []) ms) (each_last (past ++ k ∷ []) ms m h.1)
-
--- what holds at each moment may be replaced by what follows from it
-pub each_map : (P Q : List Moment → Moment → Type 0) → ((past : List Moment) (m : Moment) → P past m → Q past m) → (past ms : List Moment) → AtEach P past ms → AtEach Q past ms
-each_map P Q f past [] h = tt
-each_map P Q f past (m ∷ ms) h = (f past m h.0, each_map P Q f (past ++ m ∷ []) ms h.1)

@@ -1,5 +1,5 @@
 -- What is sent to a sink at a time, of more sends than some: those at other times change nothing.
-use Rattle.std.proofs.Common.{◌≡◌, false, List, [], ◌∷◌, ◌++◌, map, None, refl, ap, ◌∙◌}
+use Rattle.std.proofs.Common.{◌≡◌, false, List, [], ◌∷◌, ◌++◌, map, refl, ap, ◌∙◌}
 use Rattle.std.specs.Prelude.{◌&&◌, filter}
 use Rattle.std.specs.List.{AllByRecursion}
 use Rattle.std.proofs.lemmas.List.{append-nil, map-append}
@@ -40,9 +40,6 @@ sent_elsewhere prog sends more t n h =
 -- at a time of none of the earlier sends the new ones alone count
 pub sent_alone : (prog : Prog) (sends more : List Sent) (t : Time) (n : Name) → NotAt t sends → sent_in prog (sends ++ more) t n ≡ sent_in prog more t n
 sent_alone prog sends more t n h = ap (combined prog (join_of prog n)) (values_joined sends more t n ∙ ap (λ vs. vs ++ sent_values more t n) (values_none sends t n h))
-
-pub sent_none : (prog : Prog) (sends : List Sent) (t : Time) (n : Name) → NotAt t sends → sent_in prog sends t n ≡ None
-sent_none prog sends t n h = ap (combined prog (join_of prog n)) (values_none sends t n h)
 
 -- A moment looks at the sends to the sinks at its time.
 

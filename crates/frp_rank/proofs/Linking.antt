@@ -13,7 +13,7 @@ use Rattle.frp_rank.specs.Order.{Order, IsOrdered, LeadsLower, Raises}
 use Rattle.frp_rank.specs.declared.write.Write.{Write}
 use Rattle.frp_rank.specs.Plans.{Fits, written}
 use Rattle.std.specs.Prelude.{IfSome, IfNone}
-use Rattle.frp_rank.specs.Graph.{Net, net_of, base_of, order_of, live_links, no_edge, edge_at, start_of, end_of, latest, AreFiled, IsSound, IsKept, with_live, with_empty_place, Finds}
+use Rattle.frp_rank.specs.Graph.{Net, net_of, base_of, live_links, no_edge, edge_at, start_of, end_of, latest, AreFiled, IsSound, IsKept, with_live, with_empty_place, Finds}
 use Rattle.frp_rank.proofs.Paths.{bool_cases, chainless}
 use Rattle.frp_rank.proofs.Filing.{LiveEdge, edge_of_link, linked_edge, latest_le, latest_same}
 
@@ -361,24 +361,6 @@ place_sound n s few =
     }
 
 -- New ranks.
-
--- a graph whose ranks fit a link is sound without it
-pub fits_sound : (n : Net) (from to : ℕ) (ranks : List ℕ) → IsSound n → Fits (order_of n) from to ranks → IsSound (record n { ranks = ranks })
-fits_sound n from to ranks s f =
-    let same : length ranks ≡ length n.ranks = f.length_kept in
-    record {
-      ordered = record {
-        lower = λ a b h. f.lower a b (link_more (is_linked (live_links n.edges)) from to a b h);
-        inside = λ a b h. let w = s.ordered.inside a b h in (omega (arith, w.0), omega (arith, w.1));
-        small = f.small;
-        few = let l = s.ordered.few in omega arith;
-      };
-      filed = subst (AreFiled n.edges) (sym same) s.filed;
-      in_length = s.in_length ∙ sym same;
-      out_length = s.out_length ∙ sym same;
-      last_in = λ p h. s.last_in p (omega arith);
-      last_out = λ p h. s.last_out p (omega arith);
-    }
 
 -- links that are the old ones and a new one, at ranks that fit it
 pub fits_raises : (old new : Order) (from to : ℕ) → Fits old from to new.ranks → IsOrdered new → ((a b : ℕ) → is_linked new.links a b ≡ with_link (is_linked old.links) from to a b) → Raises old new from to

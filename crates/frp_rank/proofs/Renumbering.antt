@@ -34,10 +34,6 @@ renumbered_keeps ranks = record {
 
 -- In sorted ranks those that are lower stand first.
 
-lower_count_all : (ranks : List ℕ) (r : ℕ) → ((k : ℕ) → k < length ranks → get_or ranks k 0 < r) → lower_count ranks r ≡ length ranks
-lower_count_all [] r h = refl
-lower_count_all (q ∷ qs) r h = let e = lower_count_all qs r (λ k l. h (suc k) (omega arith)) in let f : q < r = h 0 (omega arith) in grind (arith, nat_tests, e, f)
-
 lower_count_none : (ranks : List ℕ) (r : ℕ) → ((k : ℕ) → k < length ranks → r ≤ get_or ranks k 0) → lower_count ranks r ≡ 0
 lower_count_none [] r h = refl
 lower_count_none (q ∷ qs) r h = let e = lower_count_none qs r (λ k l. h (suc k) (omega arith)) in let f : r ≤ q = h 0 (omega arith) in grind (arith, nat_tests, e, f)

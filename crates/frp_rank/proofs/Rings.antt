@@ -38,11 +38,6 @@ path_join linked [] ys end = refl
 path_join linked (x ∷ []) ys end = grind (arith)
 path_join linked (x ∷ k ∷ xs) ys end = let e = path_join linked (k ∷ xs) ys end in grind (arith, e)
 
--- the ends that two halves see
-first_second : (xs ys : List ℕ) (d : ℕ) → first_or xs (first_or ys d) ≡ first_or (xs ++ ys) d
-first_second [] ys d = refl
-first_second (x ∷ xs) ys d = refl
-
 flip : (b c : Bool) → cond b c false ≡ true → cond c b false ≡ true
 flip true c h = ap (λ b. cond b true false) h
 flip false c h = absurd (true≢false (sym h))

@@ -100,11 +100,6 @@ written_anew ranks raised h = written_all (lower_count raised) [] ranks raised h
 
 -- Each is for a place.
 
-pub any_default : {X : Type 0} (xs : List X) (i : ℕ) (d e : X) → i < length xs → get_or xs i d ≡ get_or xs i e
-any_default [] i d e h = absurd (omega arith)
-any_default (x ∷ xs) zero d e h = refl
-any_default (x ∷ xs) (suc i) d e h = any_default xs i d e (omega arith)
-
 map_index_length : (f : ℕ → ℕ → Write) (i : ℕ) (rs : List ℕ) → length (map_index f i rs) ≡ length rs
 map_index_length f i [] = refl
 map_index_length f i (r ∷ rs) = ap suc (map_index_length f (i + 1) rs)

@@ -1,12 +1,11 @@
 -- A session, from the entries of its calls.
-use Rattle.std.proofs.Common.{◌≡◌, ℕ, ◌+◌, ◌<◌, ◌≤◌, suc, zero, Bool, true, false, List, [], ◌∷◌, ◌++◌, map, take, length, length-append, get_or, Option, Some, None, Result, Ok, Err, refl, sym, ap, ◌∙◌, subst, arith, append_assoc}
-use Rattle.std.specs.Prelude.{slice_index_or, ◌==◌, ◌↔◌}
+use Rattle.std.proofs.Common.{◌≡◌, ℕ, ◌+◌, ◌<◌, ◌≤◌, suc, zero, Bool, true, false, List, [], ◌∷◌, ◌++◌, map, take, length, length-append, get_or, Option, Some, None, Ok, refl, sym, ap, ◌∙◌, subst, arith, append_assoc}
+use Rattle.std.specs.Prelude.{slice_index_or, ◌==◌}
 use Rattle.std.proofs.lemmas.Grind.{common_steps}
 use Rattle.std.proofs.lemmas.List.{append-nil, take_more, length-map, map-append}
 use Rattle.std.proofs.lemmas.Bool.Decides.{nat_tests}
 use Rattle.frp_base.specs.declared.name.Name.{Name}
 use Rattle.frp_graph.specs.declared.trace.Fact.{Fact}
-use Rattle.frp_graph.specs.Limits.{program_limits}
 use Rattle.frp_history.specs.declared.history.Key.{Key}
 use Rattle.frp_history.specs.declared.history.Cmd.{Cmd}
 use Rattle.frp_history.specs.declared.history.Reply.{Reply}
@@ -14,13 +13,7 @@ use Rattle.frp_history.specs.declared.history.Reply.TheVariants.{Accepted, Refus
 use Rattle.frp_history.specs.declared.history.Entry.{Entry}
 use Rattle.frp_history.specs.Sessions.{Call, calls, calls_of, key_of, keys_of, IsSession}
 use Rattle.frp_core.specs.Core.{State, HasRoom, HasAnswered, entry_of}
-use Rattle.frp_core.specs.declared.stop.Stop.{Stop}
-use Rattle.frp_core.specs.declared.stop.Stop.TheVariants.{HistoryFull}
 use Rattle.frp_run.specs.Runs.{send_cmd, script_cmds, join_call, send_call, leave_call, first_script, HasRoomFor, HasJoined, HaveAnswered, HaveJoined}
-
--- a core with room does not stop for a full history
-pub not_full : {T : Type 0} (r : Result T Stop) (c : State) → HasRoom c → (r ≡ Err HistoryFull) ↔ (length c.entries ≡ program_limits.entries) → r ≡ Err HistoryFull → ⊥
-not_full r c room full e = let l : length c.entries ≡ program_limits.entries = full.0 e in omega arith
 
 calls_append : (xs ys : List Entry) → calls (xs ++ ys) ≡ calls xs ++ calls ys
 calls_append xs ys = map-append (λ (e : Entry). record { caller = e.caller; cmd = e.cmd }) xs ys
