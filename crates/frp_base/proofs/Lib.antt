@@ -1,6 +1,7 @@
 pub mod NameLemmas
 pub mod OrderLemmas
 pub mod Booleans
+pub mod Lists
 pub mod TextLemmas
 pub mod TimeLemmas
 pub mod TyLemmas

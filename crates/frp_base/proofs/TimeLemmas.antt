@@ -1,5 +1,5 @@
 -- how a time stands to its child and to its parent
-use Rattle.std.proofs.Common.{◌≡◌, ℕ, ◌-◌, ◌<◌, List, [], ◌∷◌, ◌++◌, length, take, refl, ap, ◌∙◌, arith}
+use Rattle.std.proofs.Common.{◌≡◌, ℕ, ◌-◌, ◌<◌, List, [], ◌∷◌, ◌++◌, length, take, get_or, refl, ap, ◌∙◌, arith}
 use Rattle.std.specs.Prelude.{Option, Some, None, option_map}
 use Rattle.frp_base.specs.Time.{parent_and_number, parent}
 use Rattle.frp_base.specs.Laws.{ChildrenHaveParents}
@@ -31,3 +31,18 @@ pub parent_none : (t : List ℕ) → length t - 1 ≡ 0 → parent t ≡ None
 parent_none [] h = refl
 parent_none (n ∷ []) h = refl
 parent_none (n ∷ m ∷ t) h = absurd (omega arith)
+
+-- the parent and the number of a child
+parts_front : (n m : ℕ) (t : List ℕ) → parent_and_number (n ∷ m ∷ t) ≡ Some (take (length (m ∷ t)) (n ∷ m ∷ t), get_or (n ∷ m ∷ t) (length (m ∷ t)) 0)
+parts_front n m [] = refl
+parts_front n m (k ∷ t) = ap (option_map (λ (p : List ℕ × ℕ). (n ∷ p.0, p.1))) (parts_front m k t)
+
+pub parts_taken : (t : List ℕ) (k : ℕ) → k ≡ length t - 1 → 0 < k → parent_and_number t ≡ Some (take k t, get_or t k 0)
+parts_taken [] k e h = absurd (omega arith)
+parts_taken (n ∷ []) k e h = absurd (omega arith)
+parts_taken (n ∷ m ∷ t) k e h = let q : k ≡ length (m ∷ t) = omega arith in rw q (parts_front n m t)
+
+pub parts_none : (t : List ℕ) → length t - 1 ≡ 0 → parent_and_number t ≡ None
+parts_none [] h = refl
+parts_none (n ∷ []) h = refl
+parts_none (n ∷ m ∷ t) h = absurd (omega arith)

@@ -1,9 +1,10 @@
--- the test of equality of types decides equality
-use Rattle.std.proofs.Common.{◌≡◌, Bool, refl, ap, sym, ◌∙◌, subst}
+-- Types: the test of equality decides it, and types one layer deep.
+use Rattle.std.proofs.Common.{◌≡◌, Bool, true, refl, ap, sym, ◌∙◌, subst}
 use Rattle.std.specs.Bool.{Decides}
 use Rattle.frp_base.specs.declared.ty.Ty.{Ty, out-Ty, roll-Ty, out-roll-Ty, roll-out-Ty}
 use Rattle.frp_base.specs.declared.ty.Ty.TheOpen.{Ty-F}
 use Rattle.frp_base.specs.declared.ty.Ty.TheOpen as t
+use Rattle.frp_base.specs.declared.ty.Ty.TheVariants as v
 use Rattle.frp_base.specs.declared.ty.Ty.TheFolds.{fold-roll-Ty, map-Ty, ind-Ty}
 use Rattle.frp_base.proofs.NameLemmas.{both}
 use Rattle.frp_base.specs.Ty.{ty_layer_eq, ty_eq}
@@ -34,3 +35,13 @@ rolled y u =
 pub ty_decides : (a b : Ty) → Decides (ty_eq a b) (a ≡ b)
 ty_decides = ind-Ty (λ a. (b : Ty) → Decides (ty_eq a b) (a ≡ b))
     (λ x y e. subst (λ (x : Ty-F Ty). (b : Ty) → Decides (ty_eq (roll-Ty x) b) (roll-Ty x ≡ b)) e (rolled y))
+
+pub ty_eq-same : (x : Ty) → ty_eq x x ≡ true
+ty_eq-same x = (ty_decides x x).1 refl
+
+-- a stream's and a cell's type, one layer deep
+pub out_stream : (a : Ty) → out-Ty (v.Stream a) ≡ t.Stream a
+out_stream a = ap out-Ty (sym (v.rolls-Stream a)) ∙ out-roll-Ty (t.Stream a)
+
+pub out_cell : (a : Ty) → out-Ty (v.Cell a) ≡ t.Cell a
+out_cell a = ap out-Ty (sym (v.rolls-Cell a)) ∙ out-roll-Ty (t.Cell a)

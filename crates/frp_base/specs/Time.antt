@@ -1,7 +1,7 @@
 -- Times: lists of numbers, in lexicographic order with a prefix first.
-use Rattle.std.specs.Prelude.{ℕ, Bool, ◌==◌, List, [], ◌∷◌, ◌++◌, Option, Some, None, option_map}
+use Rattle.std.specs.Prelude.{ℕ, Bool, ◌==◌, List, [], ◌∷◌, ◌++◌, Option, Some, None, option_map, if◌then◌else◌}
 use Rattle.std.specs.Fmt.{decimal}
-use Rattle.std.specs.Ordering.{nat_cmp}
+use Rattle.std.specs.Ordering.{nat_cmp, is_gt}
 use Rattle.std.specs.declared.cmp.Ordering.{Ordering}
 use Rattle.std.specs.Cmp.Lexicographic.{slice_cmp}
 use lib.Pointwise.{pointwise}
@@ -20,6 +20,11 @@ parent_and_number [] = None
 parent_and_number (n ∷ []) = None
 parent_and_number (n ∷ i ∷ []) = Some (n ∷ [], i)
 parent_and_number (n ∷ m ∷ i ∷ t) = option_map (λ (p : List ℕ × ℕ). (n ∷ p.0, p.1)) (parent_and_number (m ∷ i ∷ t))
+
+-- the number of a child, where its parent is no earlier than a time
+abbrev pub number_since : List ℕ → Option (List ℕ × ℕ) → Option ℕ
+number_since start None = None
+number_since start (Some p) = if is_gt (time_cmp start p.0) then None else Some p.1
 
 -- the time whose child a time is; a time of one number has none
 abbrev pub parent : List ℕ → Option (List ℕ)

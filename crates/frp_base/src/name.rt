@@ -7,6 +7,7 @@ use crate::time::Time;
 use std::alloc::Global;
 use std::cmp::Ordering;
 use std::marker::Model;
+use std::sync::Arc;
 
 /// A stage of a name: the time at which an item made a node, and the item's number in its body, from 0.
 #[derive(Drop, PartialEq, Eq, PartialOrd, Ord)]
@@ -34,10 +35,11 @@ impl Stage {
 }
 
 /// The name of a node: a list of one stage or more. The last stage's time is the node's birth, and the stages before
-/// it name the node that made it. Names are ordered as lists are, a beginning first.
+/// it name the node that made it. Names are ordered as lists are, a beginning first. A name and its copies share the stages, so
+/// a copy takes no memory of its own.
 #[derive(Drop)]
 pub struct Name {
-    stages: Seq<Stage>,
+    stages: Arc<Seq<Stage>, Global>,
 }
 
 impl Model for Name {
@@ -46,9 +48,11 @@ impl Model for Name {
 
     ghost Value = { List Stage };
 
-    ghost view = { λ n. n.stages };
+    ghost use Rattle.std.specs.Arc.{arc_value};
 
-    ghost invariant = { λ n. 0 < length n.stages };
+    ghost view = { λ n. arc_value n.stages };
+
+    ghost invariant = { λ n. 0 < length (arc_value n.stages) };
 }
 
 impl Name {
@@ -63,7 +67,9 @@ impl Name {
             time: Time::top(alloc, 0),
             item,
         })?;
-        Ok(Name { stages })
+        Ok(Name {
+            stages: Arc::new(alloc, stages)?,
+        })
     }
 
     /// The number of the file's item with which the name begins. It takes no memory.
@@ -73,24 +79,28 @@ impl Name {
         self.stages.as_slice()[0].item
     }
 
-    /// A name of the same stages.
+    /// A name of the same stages. It wants memory only where there are 2^63 copies.
     pub fn copy(&self) -> Result<Name, Memory>
         ensures { IfOk result (λ n. n ≡ self.now) }
     {
-        let stages = copy_all(self.stages.allocator(), self.stages.as_slice())?;
-        Ok(Name { stages })
+        Ok(Name {
+            stages: Arc::try_clone(&self.stages)?,
+        })
     }
 
     /// The name of the node that item `item` of this node's body, counted from 0, makes at `time`: one stage more.
     pub fn made(&self, time: &Time, item: u64) -> Result<Name, Memory>
         ensures { IfOk result (λ n. n ≡ made_name self.now time.now item) }
     {
-        let mut stages = copy_all(self.stages.allocator(), self.stages.as_slice())?;
+        let alloc = self.stages.allocator();
+        let mut stages = copy_all(alloc, self.stages.as_slice())?;
         stages.add(Stage {
             time: time.copy()?,
             item,
         })?;
-        Ok(Name { stages })
+        Ok(Name {
+            stages: Arc::new(alloc, stages)?,
+        })
     }
 
     /// When the node was born: the time of the last stage. It takes no memory.
@@ -111,8 +121,11 @@ impl Name {
         if before == 0 {
             return Ok(None);
         }
-        let stages = copy_all(self.stages.allocator(), &stages[..before])?;
-        Ok(Some(Name { stages }))
+        let alloc = self.stages.allocator();
+        let stages = copy_all(alloc, &stages[..before])?;
+        Ok(Some(Name {
+            stages: Arc::new(alloc, stages)?,
+        }))
     }
 
     /// Whether two names are one. It takes no memory.
@@ -195,7 +208,7 @@ impl PartialEq for Name {
     ghost laws = { lists_per laws-law };
 
     fn eq(&self, other: &Name) -> bool {
-        self.stages == other.stages
+        self.stages.as_slice() == other.stages.as_slice()
     }
 }
 

@@ -1,5 +1,5 @@
 ghost use Rattle.std.specs.Prelude.{◌≡◌, [], ◌∷◌, ◌++◌, IfOk, OnOk, OnErr};
-ghost use Rattle.frp_base.specs.Time.{time_eq, time_text, parent};
+ghost use Rattle.frp_base.specs.Time.{time_eq, time_text, parent, parent_and_number, number_since};
 
 use crate::memory::Memory;
 use crate::text::Text;
@@ -66,6 +66,23 @@ impl Time {
         }
         let numbers = SmallVec::from_slice(*self.numbers.allocator(), &numbers[..before])?;
         Ok(Some(Time { numbers }))
+    }
+
+    /// The number of the time among the children of its parent, from 0, where the parent is no earlier than `start`. The time of a
+    /// transaction has none. It takes no memory.
+    #[tactic(auto, using(crate::proofs::TimeLemmas::parts_none, crate::proofs::TimeLemmas::parts_taken))]
+    pub fn number_since(&self, start: &Time) -> Option<u64>
+        ensures { result ≡ number_since start.now (parent_and_number self.now) }
+    {
+        let numbers = self.numbers.as_slice();
+        let last = numbers.len() - 1;
+        if last == 0 {
+            return None;
+        }
+        match start.numbers.as_slice().cmp(&&numbers[..last]) {
+            Ordering::Greater => None,
+            _ => Some(numbers[last]),
+        }
     }
 
     /// Whether two times are one. It takes no memory.

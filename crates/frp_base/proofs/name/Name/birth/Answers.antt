@@ -5,4 +5,4 @@ use Rattle.frp_base.proofs.name.Name.birth.Goals as goal
 pub returns : goal.returns
 returns c =
     let h : 0 < length c.args.self.now = rw (← c.self.view_is) c.self.invariant in
-    rw (c.as_slice-stages.ensures, c.self.view_is) (birth_last c.args.self.now _ h)
+    rw (c.as_slice-stages.ensures, c.deref.ensures, c.self.view_is) (birth_last c.args.self.now _ h)
