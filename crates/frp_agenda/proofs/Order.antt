@@ -8,6 +8,7 @@ use Rattle.std.proofs.lemmas.Cmp.{nat_cmp_total, tied_itself}
 use Rattle.std.proofs.lemmas.List.{reverse-append}
 use Rattle.frp_base.specs.Time.{time_cmp}
 use Rattle.frp_base.proofs.OrderLemmas.{time_cmp-transitive, time_cmp-beginnings}
+use Rattle.frp_base.proofs.Lists.{all_both, all_follow}
 use Rattle.frp_agenda.specs.Due.{children, IsLeast, ChildrenBefore, AreSpread, IsInOrder}
 
 -- the front of a reversed list is its last item
@@ -38,16 +39,6 @@ before_too t u h = time_cmp-transitive t (t ++ 0 ∷ []) u (time_cmp-beginnings 
 pub child_spread : (t u : List ℕ) (i : ℕ) → ChildrenBefore t u → ChildrenBefore (t ++ i ∷ []) u
 child_spread t u i h m = time_cmp-transitive _ (t ++ suc i ∷ []) u (child_first t i (suc i) m (omega arith)) (h (suc i))
 
--- each of two lists
-all_append : {A : Type 0} (P : A → Type 0) (xs ys : List A) → AllByRecursion P xs → AllByRecursion P ys → AllByRecursion P (xs ++ ys)
-all_append P [] ys h k = k
-all_append P (x ∷ xs) ys h k = (h.0, all_append P xs ys h.1 k)
-
--- what follows of each
-all_then : {A : Type 0} (P Q : A → Type 0) (xs : List A) → ((x : A) → P x → Q x) → AllByRecursion P xs → AllByRecursion Q xs
-all_then P Q [] f h = tt
-all_then P Q (x ∷ xs) f h = (f x h.0, all_then P Q xs f h.1)
-
 -- the children from that of number a on come after the children of an earlier child
 later_children : (t : List ℕ) (i a n : ℕ) → i < a → AllByRecursion (ChildrenBefore (t ++ i ∷ [])) (map (λ (k : ℕ). t ++ k ∷ []) (range_with_len a n))
 later_children t i a zero l = tt
@@ -58,8 +49,8 @@ spread_children : (t : List ℕ) (a n : ℕ) (due : List (List ℕ)) → AreSpre
     → AreSpread (map (λ (k : ℕ). t ++ k ∷ []) (range_with_len a n) ++ due)
 spread_children t a zero due s h = s
 spread_children t a (suc n) due s h = (
-  all_append (ChildrenBefore (t ++ a ∷ [])) (map (λ (k : ℕ). t ++ k ∷ []) (range_with_len (a + 1) n)) due
-      (later_children t a (a + 1) n (omega arith)) (all_then (ChildrenBefore t) (ChildrenBefore (t ++ a ∷ [])) due (λ u k. child_spread t u a k) h),
+  all_both (ChildrenBefore (t ++ a ∷ [])) (map (λ (k : ℕ). t ++ k ∷ []) (range_with_len (a + 1) n)) due
+      (later_children t a (a + 1) n (omega arith)) (all_follow (ChildrenBefore t) (ChildrenBefore (t ++ a ∷ [])) (λ u k. child_spread t u a k) due h),
   spread_children t (a + 1) n due s h,
 )
 
@@ -72,7 +63,7 @@ before_children t a (suc n) = (time_cmp-beginnings t a [], before_children t (a 
 pub in_order_pushed : (t : List ℕ) (n : ℕ) (due : List (List ℕ)) → IsInOrder t due false → IsInOrder t (children t n ++ due) true
 in_order_pushed t n due h = record {
   spread = spread_children t 0 n due h.spread (h.room refl);
-  after = all_append (λ u. time_cmp t u ≡ Less) (children t n) due (before_children t 0 n) h.after;
+  after = all_both (λ u. time_cmp t u ≡ Less) (children t n) due (before_children t 0 n) h.after;
   room = λ e. absurd (cc);
 }
 
@@ -80,7 +71,7 @@ in_order_pushed t n due h = record {
 pub in_order_moved : (t u : List ℕ) (due : List (List ℕ)) (pushed : Bool) → IsInOrder t (u ∷ due) pushed → IsInOrder u due false
 in_order_moved t u due pushed h = record {
   spread = h.spread.1;
-  after = all_then (ChildrenBefore u) (λ v. time_cmp u v ≡ Less) due (λ v k. before_too u v k) h.spread.0;
+  after = all_follow (ChildrenBefore u) (λ v. time_cmp u v ≡ Less) (λ v k. before_too u v k) due h.spread.0;
   room = λ e. h.spread.0;
 }
 

@@ -6,12 +6,13 @@ use Rattle.frp_base.specs.declared.val.Val.{Val}
 use Rattle.frp_base.specs.Name.{item_of, name_eq}
 use Rattle.frp_graph.specs.declared.trace.Node.{Node}
 use Rattle.frp_graph.specs.declared.evidence.Phase.{Phase}
-use Rattle.frp_graph.specs.Births.{execution}
+use Rattle.frp_graph.specs.Roles.{execution}
 use Rattle.frp_graph.specs.Trace.{Sight, Each, node_in, post_in}
 use Rattle.frp_graph.specs.Links.{links_by, links_from, is_linked_by, is_linked, IsChainless}
-use Rattle.frp_graph.proofs.Lists.{either_true, name_same}
+use Rattle.frp_graph.proofs.Lists.{name_same}
 use Rattle.frp_graph.proofs.Nodes.{each_named}
 use Rattle.frp_graph.proofs.Chains.{LeadsLower, no_chain}
+use Rattle.frp_base.proofs.Booleans.{either_true}
 use Rattle.frp_core.specs.Small.{IsEarlier, AreSmallFrom}
 use Rattle.frp_core.proofs.SmallShapes.{links_earlier, makes_nothing}
 use Rattle.frp_core.proofs.Found.{IsItem, found}

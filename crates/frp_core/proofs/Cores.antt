@@ -1,6 +1,6 @@
 -- A core stays one as entries are added.
 use Rattle.std.proofs.Common.{◌≡◌, ℕ, ◌+◌, ◌<◌, ◌≤◌, suc, zero, Bool, true, false, List, [], ◌∷◌, ◌++◌, cond, map, length, drop, Option, Some, None, refl, sym, ap, ◌∙◌, subst, arith, inl, inr}
-use Rattle.std.specs.Prelude.{Result, Ok, Err, OnErr, is_ok, MatchOption, slice_get, IsSomeAnd, is_some, ◌==◌}
+use Rattle.std.specs.Prelude.{Result, Ok, Err, OnErr, is_ok, MatchOption, slice_get, IsSomeAnd, is_some, ◌==◌, if◌then◌else◌}
 use Rattle.std.specs.List.{AllByRecursion, list_any, list_all}
 use Rattle.std.proofs.lemmas.Bool.{cases_Bool}
 use Rattle.std.proofs.lemmas.Bool.Decides.{nat_tests}
@@ -8,7 +8,8 @@ use Rattle.std.proofs.lemmas.List.{append-nil, map-append}
 use Rattle.std.proofs.lemmas.List.Elements.{filter-append}
 use Rattle.frp_base.specs.declared.name.Name.{Name}
 use Rattle.frp_base.specs.Time.{time_eq}
-use Rattle.frp_base.proofs.Booleans.{both_true}
+use Rattle.frp_base.proofs.Booleans.{both_true, chosen}
+use Rattle.frp_base.proofs.Lists.{all_follow, all_both}
 use Rattle.frp_graph.specs.declared.prog.Prog.{Prog}
 use Rattle.frp_graph.specs.declared.trace.Node.{Node}
 use Rattle.frp_graph.specs.declared.trace.Fact.{Fact}
@@ -17,7 +18,7 @@ use Rattle.frp_graph.specs.declared.trace.Sent.{Sent}
 use Rattle.frp_graph.specs.Trace.{Sight, live, node_in, sight_of}
 use Rattle.frp_graph.specs.Births.{build, file_plans}
 use Rattle.frp_graph.specs.FirstValues.{AreBorn}
-use Rattle.frp_graph.specs.Moments.{is_of, moments_of, transaction, IsMoment, IsTrace, AtEach}
+use Rattle.frp_graph.specs.Moments.{is_of_transaction, moments_of, transaction, IsMoment, IsTrace, AtEach}
 use Rattle.frp_graph.specs.Sends.{sent_in}
 use Rattle.frp_graph.specs.WellFormed.{seen_fits, has_typed_first, is_typed_fact}
 use Rattle.frp_graph.specs.Sound.{IsSoundAfter, KeepsLimits}
@@ -25,7 +26,6 @@ use Rattle.frp_graph.specs.TypedProg.{IsTypedProg}
 use Rattle.frp_graph.specs.Limits.{program_limits}
 use Rattle.frp_graph.proofs.Each.{each_more}
 use Rattle.frp_graph.proofs.Nodes.{each_named}
-use Rattle.frp_graph.proofs.Lists.{chosen, all_follow}
 use Rattle.frp_graph.proofs.Before.{filter_none, live_append}
 use Rattle.frp_graph.proofs.Sending.{NotAt, sent_elsewhere, sent_alone, moments_moved}
 use Rattle.frp_graph.proofs.FileBirths.{file_births, no_births}
@@ -39,7 +39,7 @@ use Rattle.frp_history.specs.declared.history.Reply.TheVariants.{Accepted, Refus
 use Rattle.frp_history.specs.declared.history.Entry.{Entry}
 use Rattle.frp_history.specs.History.{sends_of, entry_at}
 use Rattle.frp_history.specs.Windows.{window}
-use Rattle.frp_history.specs.Listeners.{Listener, key_eq, joined_by, is_leave, listener, IsFreeSlot, taken_by, taken_count, rest_of, rest}
+use Rattle.frp_history.specs.Listeners.{Listener, key_eq, joined_by, is_leave, listener, IsFreeSlot, items_taken, taken_by, taken_count, rest_of, rest}
 use Rattle.frp_history.specs.Legal.{no_sink, no_sends, no_node, no_listener, RefusedOr, IsNewKey, IsLegal}
 use Rattle.frp_history.proofs.Sendings.{sends_of_more, sends_before}
 use Rattle.frp_history.proofs.Legals.{legal_after}
@@ -47,7 +47,7 @@ use Rattle.frp_core.specs.Small.{is_built, AreSmallFrom}
 use Rattle.frp_core.specs.Nodes.{line_nodes}
 use Rattle.frp_core.specs.Engine.{sent_to, AreFacts}
 use Rattle.frp_core.specs.Core.{State, times_of, IsSingle, IsPlain, IsPlainEntry, IsCore, IsQuiet, HasRoom, with_entry, with_moment}
-use Rattle.frp_core.proofs.Times.{IsBefore, at_place, none_sent, times_before, other_times, all_both, all_mapped}
+use Rattle.frp_core.proofs.Times.{IsBefore, at_place, none_sent, times_before, other_times, all_mapped}
 use Rattle.frp_core.proofs.Settling.{settled_length, one_sent}
 use Rattle.frp_core.proofs.Lines.{born, few_nodes}
 use Rattle.frp_core.proofs.NewMoment.{nodes_rise, new_moment}
@@ -100,8 +100,12 @@ free_slot es plain = λ key some same. by key (listener es key) refl some same w
 
 -- nothing was taken
 given_zero : (key : Key) (c : Cmd) (r : Reply) → IsPlain r → taken_by key c r ≡ 0
-given_zero key (Take k max) (Given items) h = absurd h
-given_zero key _ _ h = refl
+given_zero key (Take k max) r h = by (key_eq k key) r h where
+  by : (b : Bool) (r : Reply) → IsPlain r → (if b then length (items_taken r) else 0) ≡ 0
+  by false r h = refl
+  by true (Given items) h = absurd h
+  by true _ h = refl
+given_zero key _ r h = refl
 
 none_given : (es : List Entry) (key : Key) → AllByRecursion IsPlainEntry es → taken_count es key ≡ 0
 none_given [] key h = refl
@@ -243,12 +247,12 @@ module _ (c : State) (core : IsCore c) (room : HasRoom c) where
     one_here = let h : (here == here) ≡ true = grind (arith, nat_tests) in rw h refl
 
     none_here : transaction here c.trace ≡ []
-    none_here = filter_none (λ k. is_of here k.time) c.trace (all_follow _ _ (λ k b. ap (is_of here) b.1.0 ∙ below b.0 here b.1.1) c.trace moments_here) where
+    none_here = filter_none (λ k. is_of_transaction here k.time) c.trace (all_follow _ _ (λ k b. ap (is_of_transaction here) b.1.0 ∙ below b.0 here b.1.1) c.trace moments_here) where
       below : (a b : ℕ) → a < b → (a == b) ≡ false
       below a b h = grind (arith, nat_tests)
 
     moments_joined : (k : ℕ) → moments_of k (c.trace ++ m ∷ []) ≡ length (transaction k c.trace ++ transaction k (m ∷ []))
-    moments_joined k = ap length (filter-append (λ j. is_of k j.time) c.trace (m ∷ []))
+    moments_joined k = ap length (filter-append (λ j. is_of_transaction k j.time) c.trace (m ∷ []))
 
     few_moments : (k : ℕ) → moments_of k (c.trace ++ m ∷ []) ≤ program_limits.moments
     few_moments k = elim (cases_Bool (here == k)) [
@@ -273,7 +277,7 @@ module _ (c : State) (core : IsCore c) (room : HasRoom c) where
     each_moment = subst (λ ss. AtEach (IsMoment c.prog ss) [] (c.trace ++ m ∷ [])) (sym more_sends)
         (each_more (IsMoment c.prog (sends_of c.entries ++ s ∷ [])) [] c.trace m old_moments last_moment)
 
-    of_here : AllByRecursion (λ j. is_of here j.time ≡ true) (m ∷ [])
+    of_here : AllByRecursion (λ j. is_of_transaction here j.time ≡ true) (m ∷ [])
     of_here = ((let h : (here == here) ≡ true = grind (arith, nat_tests) in h), tt)
 
     send_legal : IsLegal c.prog program_limits (c.entries ++ e ∷ []) (c.trace ++ m ∷ [])
@@ -395,7 +399,7 @@ module _ (prog : Prog) (nodes : List Node) (fired : List Fact) (typed : IsTypedP
     legal = record {
       is_trace = is_trace (first_moment ∷ []) small_first prog [] tt refl (is_first, tt);
       sound = (first_sound, tt);
-      within = record { moments = λ k. one_moment (is_of k build); nodes = few_first };
+      within = record { moments = λ k. one_moment (is_of_transaction k build); nodes = few_first };
       few_entries = omega arith;
       replies = tt;
     };

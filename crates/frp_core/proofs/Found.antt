@@ -5,8 +5,9 @@ use Rattle.frp_base.specs.declared.name.Name.{Name}
 use Rattle.frp_base.specs.Name.{declared_name, item_of, name_eq}
 use Rattle.frp_graph.specs.declared.trace.Node.{Node}
 use Rattle.frp_graph.specs.Trace.{node_in}
-use Rattle.frp_graph.proofs.Lists.{is_false, name_same}
+use Rattle.frp_graph.proofs.Lists.{name_same}
 use Rattle.frp_graph.proofs.Nodes.{found_first, found_holds}
+use Rattle.frp_base.proofs.Booleans.{is_false}
 use Rattle.frp_core.specs.Small.{IsSmall, AreSmallFrom}
 
 -- declared names of different items differ

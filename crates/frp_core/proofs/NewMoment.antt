@@ -21,8 +21,9 @@ use Rattle.frp_graph.specs.Moments.{IsMoment}
 use Rattle.frp_graph.proofs.Nodes.{each_holds}
 use Rattle.frp_core.specs.Small.{IsEarlier, AreSmallFrom}
 use Rattle.frp_core.specs.Engine.{sends_of_fact, occ_at, sees, AreSettled, facts_of}
-use Rattle.frp_graph.proofs.Lists.{name_eq-same, all_follow}
+use Rattle.frp_graph.proofs.Lists.{name_eq-same}
 use Rattle.frp_graph.proofs.FileBirths.{declared_less}
+use Rattle.frp_base.proofs.Lists.{all_follow, get_front, get_next}
 use Rattle.frp_core.proofs.Times.{all_mapped}
 use Rattle.frp_core.proofs.Found.{declared_differs, each_found}
 use Rattle.frp_core.proofs.SmallShapes.{row_small}
@@ -93,15 +94,6 @@ facts_rise k (x ∷ xs) (Some v ∷ os) s = (
 )
 
 -- What is first in a list stays so in a longer one.
-
-get_front : {A : Type 0} (xs ys : List A) (j : ℕ) → j < length xs → slice_get (xs ++ ys) j ≡ slice_get xs j
-get_front [] ys j h = absurd (omega arith)
-get_front (x ∷ xs) ys zero h = refl
-get_front (x ∷ xs) ys (suc j) h = get_front xs ys j (omega arith)
-
-get_next : {A : Type 0} (xs : List A) (y : A) (ys : List A) → slice_get (xs ++ y ∷ ys) (length xs) ≡ Some y
-get_next [] y ys = refl
-get_next (x ∷ xs) y ys = get_next xs y ys
 
 -- The equations.
 

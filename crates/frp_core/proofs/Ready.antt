@@ -7,6 +7,7 @@ use Rattle.frp_base.specs.declared.name.Name.{Name}
 use Rattle.frp_base.specs.declared.ty.Ty.{Ty}
 use Rattle.frp_base.specs.declared.val.Val.{Val}
 use Rattle.frp_base.proofs.Booleans.{both_true, true_both}
+use Rattle.frp_base.proofs.Lists.{all_follow, all_back}
 use Rattle.frp_expr.proofs.TypeLemmas.{has_some}
 use Rattle.frp_expr.proofs.ValueLemmas.{are_more}
 use Rattle.frp_graph.specs.declared.prog.Prog.{Prog}
@@ -18,9 +19,8 @@ use Rattle.frp_graph.specs.declared.trace.Node.{Node}
 use Rattle.frp_graph.specs.Trace.{Sight, node_in}
 use Rattle.frp_graph.specs.Births.{build, reference, shape_of}
 use Rattle.frp_graph.specs.Links.{operands}
-use Rattle.frp_graph.specs.TypedProg.{IsTypedProg, sigs, patterns, is_tied, all_types, are_typed_lines}
+use Rattle.frp_graph.specs.TypedProg.{IsTypedProg, sigs, patterns, has_tied_type, all_types, are_typed_lines}
 use Rattle.frp_graph.specs.Values.{type_among, are_values}
-use Rattle.frp_graph.proofs.Lists.{all_follow}
 use Rattle.frp_graph.proofs.Nodes.{found_named, found_more}
 use Rattle.frp_graph.proofs.TypedSights.{node_of_type}
 use Rattle.frp_graph.proofs.TypedValues.{reference_is, are_stay}
@@ -28,7 +28,6 @@ use Rattle.frp_graph.proofs.TypedLines.{line_kind, line_is_allowed}
 use Rattle.frp_graph.proofs.TypedTemplates.{file_typed}
 use Rattle.frp_core.specs.Small.{is_built_shape, is_built_line, is_built, is_small_shape, IsEarlier, IsSmall, AreSmallFrom}
 use Rattle.frp_core.specs.Nodes.{line_node, with_next_reference, AreReady}
-use Rattle.frp_core.proofs.Times.{all_right}
 use Rattle.frp_core.proofs.SmallShapes.{operands_live}
 use Rattle.frp_core.proofs.Found.{found, each_found, small_joined}
 
@@ -38,7 +37,7 @@ built_small all vs l.Sink = refl
 built_small all vs _ = refl
 
 module _ (prog : Prog) where
-  untied : (ts : List Ty) (x : Ty) (shape : LineShape) → is_built_shape shape ≡ true → is_tied (sigs prog) prog.codes (patterns prog) ts x shape ≡ true
+  untied : (ts : List Ty) (x : Ty) (shape : LineShape) → is_built_shape shape ≡ true → has_tied_type (sigs prog) prog.codes (patterns prog) ts x shape ≡ true
   untied ts x l.Sink b = refl
   untied ts x _ b = cc
 
@@ -72,7 +71,7 @@ module _ (prog : Prog) where
       let y : Node = line_node refs x shape in
       let all : List Node = front ++ y ∷ [] in
       let small : AreSmallFrom 0 all = small_joined 0 (length refs) front y (n ∙ sym (zero-add (length front))) s refl here in
-      let last : type_among (node_in all) y.name ≡ Some x = ap (option_map (λ (z : Node). z.ty)) (all_right (λ z. node_in all z.name ≡ Some z) front (y ∷ []) (each_found 0 all small)).0 in
+      let last : type_among (node_in all) y.name ≡ Some x = ap (option_map (λ (z : Node). z.ty)) (all_back (λ z. node_in all z.name ≡ Some z) front (y ∷ []) (each_found 0 all small)).0 in
       let among = are_more (type_among (node_in all)) (sigs prog) refs ts (reference x y.name) x
       (are_stay (sigs prog) (type_among (node_in front)) (type_among (node_in all)) (types_stay front (y ∷ [])) refs ts a)
       (reference_is (type_among (node_in all)) (sigs prog) x y.name (line_kind prog (patterns prog) ts x shape (has_some x _ has)) last) in

@@ -1,6 +1,6 @@
 -- What is special of small shapes, and the laws of all shapes for them: their links and their rows look at earlier nodes only.
-use Rattle.std.proofs.Common.{◌≡◌, ℕ, Bool, true, false, List, [], Option, Some, None, refl, sym, subst}
-use Rattle.std.specs.Prelude.{filter, if◌then◌else◌}
+use Rattle.std.proofs.Common.{◌≡◌, ℕ, Bool, true, false, List, [], Option, Some, None, refl, sym, subst, ap, ◌∙◌}
+use Rattle.std.specs.Prelude.{filter, option_and_then, if◌then◌else◌}
 use Rattle.std.specs.Option.{option_to_list}
 use Rattle.std.specs.List.{AllByRecursion}
 use Rattle.frp_base.specs.declared.name.Name.{Name}
@@ -17,7 +17,8 @@ use Rattle.frp_graph.specs.declared.trace.Sent.{Sent}
 use Rattle.frp_graph.specs.declared.evidence.Phase.{Phase}
 use Rattle.frp_graph.specs.declared.evidence.Phase.TheVariants.{Birth, During, After}
 use Rattle.frp_graph.specs.Trace.{Sight, post_in}
-use Rattle.frp_graph.specs.Births.{execution}
+use Rattle.frp_graph.specs.Roles.{Execution, execution}
+use Rattle.frp_graph.specs.Births.{instance, instance_in}
 use Rattle.frp_graph.specs.Sends.{sent_in}
 use Rattle.frp_graph.specs.Equations.{row}
 use Rattle.frp_graph.specs.Evidence.{has_reads}
@@ -26,10 +27,9 @@ use Rattle.frp_graph.specs.Moments.{items_to_split}
 use Rattle.frp_graph.specs.Values.{type_among}
 use Rattle.frp_graph.specs.WellFormed.{Allows}
 use Rattle.frp_graph.specs.ShapeLaws.{Stays}
-use Rattle.frp_graph.proofs.Lists.{all_follow}
-use Rattle.frp_graph.proofs.Rows.{rows_agree}
+use Rattle.frp_graph.proofs.Rows.{reads_stay, rows_agree}
+use Rattle.frp_base.proofs.Lists.{all_follow, all_both}
 use Rattle.frp_core.specs.Small.{IsEarlier, is_small_shape, IsSmall}
-use Rattle.frp_core.proofs.Times.{all_both}
 
 -- What is special: they link to their operands alone, read no value before, split nothing and make nothing.
 
@@ -89,6 +89,8 @@ pub row_small : (prog : Prog) (sends others : List Sent) (w u : Sight) (k : ℕ)
     → ((n : Name) → IsEarlier k n → u.occ n ≡ w.occ n) → Stays w.pre u.pre → ((n : Name) → u.above n ≡ w.above n) → sent_in prog others w.time x.name ≡ sent_in prog sends w.time x.name
     → row prog others u x x.shape ≡ row prog sends w x x.shape
 row_small prog sends others w u k x e h time same stays above sent =
+    let no_instance : (v : Sight) → instance_in prog v x.name x.shape ≡ None = λ v. ap (option_and_then (λ (e : Execution). option_and_then (instance prog v x.name e.template e.kept) (v.occ e.source))) (makes_nothing x.shape h.0) in
     rows_agree prog sends others w u x time
     (all_follow (IsEarlier k) (λ n. u.occ n ≡ w.occ n) same (links w During x) (links_earlier w (post_in w) During x k e h))
-    stays (all_follow (IsEarlier k) (λ n. u.above n ≡ w.above n) (λ n q. above n) (operands x.shape) h.1) sent (reads_small prog w x x.shape h.0)
+    (reads_stay w u stays x.shape) (no_instance u ∙ sym (no_instance w))
+    (all_follow (IsEarlier k) (λ n. u.above n ≡ w.above n) (λ n q. above n) (operands x.shape) h.1) sent (reads_small prog w x x.shape h.0)

@@ -15,10 +15,10 @@ use Rattle.frp_graph.specs.Trace.{live, moment_at}
 use Rattle.frp_graph.specs.Births.{build}
 use Rattle.frp_graph.specs.Moments.{items_to_split, splits_at, live_at, is_child_due, is_due, IsMoment, IsTrace, AtEach}
 use Rattle.frp_history.specs.History.{sends_of}
+use Rattle.frp_base.proofs.Lists.{all_follow, all_both, all_front, all_back}
 use Rattle.frp_core.specs.Small.{AreSmallFrom}
 use Rattle.frp_core.specs.Core.{times_of, IsSingle}
-use Rattle.frp_graph.proofs.Lists.{all_follow}
-use Rattle.frp_core.proofs.Times.{at_place, times_rise, all_left, all_right, all_both}
+use Rattle.frp_core.proofs.Times.{at_place, times_rise}
 use Rattle.frp_core.proofs.SmallShapes.{no_items}
 
 -- Due times.
@@ -48,7 +48,7 @@ none_split k (x ∷ xs) s = ((λ m i. ap (nat_lt i) (no_items m x.shape s.1.0) �
 
 live_some : (P : Node → Type 0) (p : Moment → Bool) (ms : List Moment) → AllByRecursion P (live ms) → AllByRecursion P (live (filter p ms))
 live_some P p [] h = tt
-live_some P p (m ∷ ms) h = by_test (p m) (all_left P m.born (live ms) h) (live_some P p ms (all_right P m.born (live ms) h)) where
+live_some P p (m ∷ ms) h = by_test (p m) (all_front P m.born (live ms) h) (live_some P p ms (all_back P m.born (live ms) h)) where
   by_test : (b : Bool) → AllByRecursion P m.born → AllByRecursion P (live (filter p ms)) → AllByRecursion P (live (cond b (m ∷ filter p ms) (filter p ms)))
   by_test true h k = all_both P m.born (live (filter p ms)) h k
   by_test false h k = k

@@ -13,10 +13,11 @@ use Rattle.frp_graph.specs.declared.trace.Fact.{Fact}
 use Rattle.frp_graph.specs.declared.trace.Sent.{Sent}
 use Rattle.frp_graph.specs.declared.prog.Prog.{Prog}
 use Rattle.frp_graph.specs.Trace.{Sight, Each, fact_in, node_in}
+use Rattle.frp_graph.specs.Roles.{is_sink_shape}
 use Rattle.frp_graph.specs.Births.{Plan, plans_by}
 use Rattle.frp_graph.specs.Values.{type_among, fits_node}
 use Rattle.frp_graph.specs.TypedProg.{IsTypedProg}
-use Rattle.frp_graph.specs.Sends.{is_sink_shape, sent_in}
+use Rattle.frp_graph.specs.Sends.{sent_in}
 use Rattle.frp_graph.specs.Equations.{keep_if, row, MeetsEquation}
 use Rattle.frp_graph.specs.WellFormed.{seen_fits, has_typed_first, is_typed_fact, Allows, IsWellFormed}
 use Rattle.frp_graph.specs.Laws.{IsFact}

@@ -8,7 +8,8 @@ use Rattle.frp_base.specs.declared.ty.Ty.TheOpen.{Ty-F}
 use Rattle.frp_base.specs.declared.ty.Ty.TheOpen as u
 use Rattle.frp_base.specs.declared.ty.Ty.TheVariants as t
 use Rattle.frp_base.specs.declared.val.Val.{Val}
-use Rattle.frp_base.proofs.Booleans.{both_true, true_both}
+use Rattle.frp_base.proofs.Booleans.{both_true, true_both, or_true}
+use Rattle.frp_base.proofs.Lists.{all_follow}
 use Rattle.frp_graph.specs.declared.prog.Prog.{Prog}
 use Rattle.frp_graph.specs.declared.prog.LineShape.{LineShape}
 use Rattle.frp_graph.specs.declared.prog.LineShape.TheVariants.{Sink, Never, Map, Filter, Hold}
@@ -17,7 +18,6 @@ use Rattle.frp_graph.specs.Trace.{Sight, node_in}
 use Rattle.frp_graph.specs.Births.{Plan, given_by, shape_of, file_plans}
 use Rattle.frp_graph.specs.TypedProg.{IsTypedProg, stream_in, cell_in, is_stream, is_cell}
 use Rattle.frp_graph.specs.WellFormed.{has_typed_first, Allows}
-use Rattle.frp_graph.proofs.Lists.{or_true, all_follow}
 use Rattle.frp_graph.proofs.TypedValues.{stream_is}
 use Rattle.frp_graph.proofs.TypedBodies.{IsLive, IsAllowed, file_allowed}
 use Rattle.frp_core.specs.Small.{is_built_shape, is_built, AreSmallFrom}

@@ -65,7 +65,7 @@ fn occurrence(
         Shape::Sink => sent_to(alloc, sent, &node.name),
         Shape::Never => Ok(None),
         Shape::Map { f, s } => match occurrence_of(occs, s) {
-            Some(value) => Ok(Some(applied(alloc, prog.codes.as_slice(), f, value)?)),
+            Some(value) => Ok(Some(code_on(alloc, prog.codes.as_slice(), f, value)?)),
             None => Ok(None),
         },
         Shape::Filter { f, s } => match occurrence_of(occs, s) {
@@ -110,7 +110,7 @@ fn occurrence_of<'a>(occs: &'a [Option<Val>], name: &Name) -> Option<&'a Val>
 fn kept(alloc: Global, codes: &[Expr], f: &Lam, argument: &Val) -> Result<Option<Val>, Memory>
     ensures { IfOk result (λ o. o ≡ keep_if (bool_in (out-Val (code_on codes.now f.now (argument.now ∷ [])))) (Some argument.now)) }
 {
-    if is_true(&applied(alloc, codes, f, argument)?) {
+    if is_true(&code_on(alloc, codes, f, argument)?) {
         Ok(Some(argument.copy(alloc)?))
     } else {
         Ok(None)
@@ -125,7 +125,7 @@ fn is_true(value: &Val) -> bool
 }
 
 /// An expression of the program on an argument.
-fn applied(alloc: Global, codes: &[Expr], f: &Lam, argument: &Val) -> Result<Val, Memory>
+fn code_on(alloc: Global, codes: &[Expr], f: &Lam, argument: &Val) -> Result<Val, Memory>
     ensures { IfOk result (λ v. v ≡ code_on codes.now f.now (argument.now ∷ [])) }
 {
     let mut values = Seq::new(alloc);

@@ -3,13 +3,13 @@
 ghost use Rattle.std.specs.Prelude.{◌≡◌, ◌&&◌, map, option_map, slice_get};
 ghost use Rattle.std.specs.Option.{option_copied};
 ghost use Rattle.frp_base.specs.Ty.{ty_eq};
-ghost use Rattle.frp_expr.specs.Types.{fits as fits_in};
+ghost use Rattle.frp_expr.specs.Types.{fits};
 ghost use Rattle.frp_expr.specs.Values.{is_node_of, all_of, each_of, is_closed_of};
 ghost use Rattle.frp_graph.specs.Trace.{node_in};
 ghost use Rattle.frp_graph.specs.TypedProg.{sig_of, sigs};
 ghost use Rattle.frp_graph.specs.Values.{type_among, is_value, fits_node};
 
-use crate::windows::node_of;
+use crate::windows::node_in;
 use frp_base::{Name, Ty, Val};
 use frp_expr::is_text;
 use frp_graph::{FunDef, Node, Prog};
@@ -18,7 +18,7 @@ use frp_graph::{FunDef, Node, Prog};
 const MOST: usize = 1024;
 
 /// Whether a value is one that a node of this type holds, among these nodes and functions.
-pub fn fits(prog: &Prog, nodes: &[Node], ty: &Ty, value: &Val) -> bool
+pub fn fits_node(prog: &Prog, nodes: &[Node], ty: &Ty, value: &Val) -> bool
     ensures { result ≡ fits_node prog.now (node_in nodes.now) ty.now value.now }
 {
     match ty {
@@ -123,7 +123,7 @@ fn are_values(prog: &Prog, nodes: &[Node], values: &[Val], tys: &[Ty]) -> bool
 /// Every number has 64 bits.
 #[tactic(auto, using(frp_expr::proofs::NumberLemmas::fits_mag))]
 fn has_64_bits(n: i64) -> bool
-    ensures { result ≡ fits_in n }
+    ensures { result ≡ fits n }
 {
     let _n = n;
     true
@@ -133,7 +133,7 @@ fn has_64_bits(n: i64) -> bool
 fn is_node(nodes: &[Node], name: &Name, ty: &Ty) -> bool
     ensures { result ≡ is_node_of ty.now (type_among (node_in nodes.now) name.now) }
 {
-    match node_of(nodes, name) {
+    match node_in(nodes, name) {
         Some(node) => node.ty.is(ty),
         None => false,
     }

@@ -9,11 +9,11 @@ ghost use Rattle.frp_graph.specs.Trace.{node_in};
 ghost use Rattle.frp_history.specs.Legal.{no_sink};
 
 use crate::engine::settle;
-use crate::fits::fits;
+use crate::fits::fits_node;
 use crate::listeners::own_listener;
 use crate::nodes::first_nodes;
 use crate::stop::Stop;
-use crate::windows::{node_of, window_of};
+use crate::windows::{node_in, window_of};
 use frp_base::{Memory, Name, Seq, Time};
 use frp_graph::{Fact, Limits, Moment, Node, Prog, Shape};
 use frp_history::{Cmd, Entry, Key, No, Reply};
@@ -164,7 +164,7 @@ impl Core {
         ensures plain { IsPlain (join_reply result) }
     {
         let place = self.entries.as_slice().len() as u64 + 1;
-        match node_of(self.nodes(), node) {
+        match node_in(self.nodes(), node) {
             Some(_) => Some(Key { slot: place, place }),
             None => None,
         }
@@ -305,10 +305,10 @@ fn first_trace(alloc: Global, prog: &Prog) -> Result<Seq<Moment>, Memory>
 fn refusal(prog: &Prog, nodes: &[Node], fact: &Fact) -> Option<No>
     ensures { result ≡ no_sink prog.now (node_in nodes.now) fact.now.value (node_in nodes.now fact.now.node) }
 {
-    match node_of(nodes, &fact.node) {
+    match node_in(nodes, &fact.node) {
         Some(node) => match &node.shape {
             Shape::Sink => {
-                if fits(prog, nodes, &node.ty, &fact.value) {
+                if fits_node(prog, nodes, &node.ty, &fact.value) {
                     None
                 } else {
                     Some(No::WrongType)

@@ -72,7 +72,7 @@ fn node(alloc: Global, refs: &[Val], ty: &Ty, shape: &LineShape) -> Result<Node,
 {
     let name = Name::declared(alloc, refs.len() as u64)?;
     let ty = ty.copy(alloc)?;
-    let first = first_value(alloc, refs, shape)?;
+    let first = given_by(alloc, refs, shape)?;
     let shape = node_shape(alloc, refs, shape)?;
     Ok(Node {
         name,
@@ -117,7 +117,7 @@ fn node_shape(alloc: Global, refs: &[Val], shape: &LineShape) -> Result<Shape, M
 }
 
 /// The first value that a line gives its node, if any.
-fn first_value(alloc: Global, refs: &[Val], shape: &LineShape) -> Result<Option<Val>, Memory>
+fn given_by(alloc: Global, refs: &[Val], shape: &LineShape) -> Result<Option<Val>, Memory>
     ensures { IfOk result (λ first. first ≡ given_by refs.now shape.now) }
 {
     match shape {
@@ -133,13 +133,13 @@ fn lam(alloc: Global, refs: &[Val], f: &LineLam) -> Result<Lam, Memory>
 {
     let mut kept = Seq::new(alloc);
     for position in f.kept.as_slice() {
-        kept.add(value_at(alloc, refs, *position)?)?;
+        kept.add(value_or_zero(alloc, refs, *position)?)?;
     }
     Ok(Lam { code: f.code, kept })
 }
 
 /// The value at a position, or 0 where there is none.
-fn value_at(alloc: Global, values: &[Val], position: u64) -> Result<Val, Memory>
+fn value_or_zero(alloc: Global, values: &[Val], position: u64) -> Result<Val, Memory>
     ensures { IfOk result (λ v. v ≡ slice_index_or values.now position zero_val) }
 {
     match values.get(position as usize) {

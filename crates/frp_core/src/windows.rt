@@ -110,7 +110,7 @@ fn value_at<'a>(earlier: Option<&'a Val>, moment: &'a Moment, name: &Name) -> Op
 fn pre_from<'a>(earlier: Option<&'a Val>, moment: &'a Moment, name: &Name) -> Option<&'a Val>
     ensures { option_copied result ≡ pre_from (option_copied earlier.entry) moment.now name.now }
 {
-    if let Some(node) = node_of(moment.born.as_slice(), name) {
+    if let Some(node) = node_in(moment.born.as_slice(), name) {
         if let Some(value) = &node.first {
             return Some(value);
         }
@@ -131,7 +131,7 @@ fn fact_of<'a>(facts: &'a [Fact], name: &Name) -> Option<&'a Val>
 }
 
 /// The node of a name among these.
-pub fn node_of<'a>(nodes: &'a [Node], name: &Name) -> Option<&'a Node>
+pub fn node_in<'a>(nodes: &'a [Node], name: &Name) -> Option<&'a Node>
     ensures { option_copied result ≡ node_in nodes.now name.now }
 {
     for node in nodes {

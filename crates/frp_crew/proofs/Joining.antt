@@ -8,11 +8,11 @@ use Rattle.std.specs.declared.result.Result.{Result}
 use Rattle.std.specs.declared.vec.Vec.{Vec}
 use Rattle.rayon.proofs.ListFacts.{AllZip-append}
 use Rattle.frp_base.specs.declared.memory.Memory.{Memory}
-use Rattle.frp_crew.specs.Answers.{AreAnswers, AreJoined}
+use Rattle.frp_crew.specs.Answers.{AreAnswers, AreBoth}
 
 module _ {F I O : Type 0} (function : Shared F (Bor I × Unit {0}) (Result O Memory)) (f : F) where
   both_ok : {Z : Type 0} (left right : List I) (front back : Result (Vec O Z) Memory) (answers : List O) → IfOk front (λ v. AreAnswers function f left v.items)
-      → IfOk back (λ v. AreAnswers function f right v.items) → AreJoined front back answers → AreAnswers function f (left ++ right) answers
+      → IfOk back (λ v. AreAnswers function f right v.items) → AreBoth front back answers → AreAnswers function f (left ++ right) answers
   both_ok left right front back answers h k (a, b, p, q, e) =
       subst (AreAnswers function f (left ++ right)) (sym e)
       (AllZip-append (λ item answer. FnReturnsAt function f item (Ok answer)) left right a.items b.items
@@ -20,7 +20,7 @@ module _ {F I O : Type 0} (function : Shared F (Bor I × Unit {0}) (Result O Mem
 
   -- the answers on the halves, joined, are those on the whole
   pub halves_joined : {Z : Type 0} (left right : List I) (front back result : Result (Vec O Z) Memory) → IfOk front (λ v. AreAnswers function f left v.items)
-      → IfOk back (λ v. AreAnswers function f right v.items) → IfOk result (λ v. AreJoined front back v.items) → IfOk result (λ v. AreAnswers function f (left ++ right) v.items)
+      → IfOk back (λ v. AreAnswers function f right v.items) → IfOk result (λ v. AreBoth front back v.items) → IfOk result (λ v. AreAnswers function f (left ++ right) v.items)
   halves_joined left right front back (Ok v) h k j = both_ok left right front back v.items h k j
   halves_joined left right front back (Err e) h k j = tt
 

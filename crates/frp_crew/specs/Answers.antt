@@ -21,5 +21,5 @@ module _ {F I O : Type 0} (function : Shared F (Bor I × Unit {0}) (Result O Mem
   AreAnswers = AllZip (λ item answer. FnReturnsAt function f item (Ok answer))
 
 -- both are answers, and these are those of the one and then those of the other
-abbrev pub AreJoined : {O Z : Type 0} → Result (Vec O Z) Memory → Result (Vec O Z) Memory → List O → Type 0
-AreJoined {O} {Z} front back answers = (a : Vec O Z) × (b : Vec O Z) × (front ≡ Ok a) × (back ≡ Ok b) × (answers ≡ a.items ++ b.items)
+abbrev pub AreBoth : {O Z : Type 0} → Result (Vec O Z) Memory → Result (Vec O Z) Memory → List O → Type 0
+AreBoth {O} {Z} front back answers = (a : Vec O Z) × (b : Vec O Z) × (front ≡ Ok a) × (back ≡ Ok b) × (answers ≡ a.items ++ b.items)

@@ -1,6 +1,6 @@
 ghost use Rattle.std.specs.Prelude.{IfOk};
 ghost use Rattle.std.specs.Thread.{IsSync};
-ghost use Rattle.frp_crew.specs.Answers.{TakesEach, AreAnswers, AreJoined};
+ghost use Rattle.frp_crew.specs.Answers.{TakesEach, AreAnswers, AreBoth};
 
 use crate::one_by_one::one_by_one;
 use frp_base::Memory;
@@ -42,7 +42,7 @@ fn joined<O: Drop>(
     front: Result<Vec<O>, Memory>,
     back: Result<Vec<O>, Memory>,
 ) -> Result<Vec<O>, Memory>
-    ensures { IfOk result (λ v. AreJoined front back v.items) }
+    ensures { IfOk result (λ v. AreBoth front back v.items) }
 {
     let mut answers = front?;
     let mut more = back?;

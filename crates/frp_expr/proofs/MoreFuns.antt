@@ -12,6 +12,7 @@ use Rattle.frp_expr.specs.declared.expr.Expr.TheOpen.{Expr-F}
 use Rattle.frp_expr.specs.declared.expr.Expr.TheOpen as e
 use Rattle.frp_expr.specs.declared.expr.Expr.TheFolds.{fold-roll-Expr, map-Expr, ind-Expr}
 use Rattle.frp_base.proofs.Booleans.{both_true, true_both}
+use Rattle.frp_base.proofs.Lists.{get_more}
 use Rattle.frp_expr.proofs.TypeLemmas.{has_some}
 
 pub given_more : (b c : Bool) (a x : Ty) → (b ≡ true → c ≡ true) → given b a ≡ Some x → given c a ≡ Some x
@@ -21,11 +22,6 @@ given_more false c a x k h = absurd cc
 pub bind_more : {A B : Type 0} (o p : Option A) (f g : A → Option B) (x : B) → ((y : A) → o ≡ Some y → p ≡ Some y) → ((y : A) → f y ≡ Some x → g y ≡ Some x) → (o >>= f) ≡ Some x → (p >>= g) ≡ Some x
 bind_more (Some y) p f g x k m h = rw (k y refl) (m y h)
 bind_more None p f g x k m h = absurd cc
-
-pub get_more : {A : Type 0} (xs ys : List A) (i : ℕ) (x : A) → slice_get xs i ≡ Some x → slice_get (xs ++ ys) i ≡ Some x
-get_more [] ys i x h = absurd cc
-get_more (z ∷ xs) ys zero x h = h
-get_more (z ∷ xs) ys (suc i) x h = get_more xs ys i x h
 
 module _ (sigs more : List Sig) where
   abbrev all : List Sig

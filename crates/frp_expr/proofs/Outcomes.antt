@@ -10,6 +10,7 @@ use Rattle.frp_expr.specs.Scope.{Named}
 use Rattle.frp_expr.specs.Raw.{ExprOutcome, ◌>>=◌, or_fault, Part, part_by, part_as, two_as}
 use Rattle.frp_expr.specs.declared.fault.TypeKind.{TypeKind}
 use Rattle.frp_expr.specs.declared.fault.TypeKind.TheVariants as kind
+use Rattle.frp_base.proofs.Booleans.{and_true}
 
 -- one step after another, of types or none
 abbrev pub next : {A B : Type 0} → Option A → (A → Option B) → Option B
@@ -43,10 +44,6 @@ given_next false x o q r e = refl
 pub as_then : (x : Ty) (p : Part) (ns : List Named) (k : Option Ty) (rest : ExprOutcome Ty) (q : Bool) (r : Ty) → result_ok (p.typing ns) ≡ k → result_ok rest ≡ given q r
     → result_ok (part_as x p ns >>= λ _. rest) ≡ given (has x k && q) r
 as_then x p ns k rest q r e f = ok_bind (part_as x p ns) (λ _. rest) ∙ ap (λ o. next o (λ _. result_ok rest)) (as_ok x p ns k e) ∙ given_next (has x k) x (result_ok rest) q r f
-
-and_true : (b : Bool) → b && true ≡ b
-and_true true = refl
-and_true false = refl
 
 -- a part that has the type, and then this type
 pub as_so : (x : Ty) (p : Part) (ns : List Named) (k : Option Ty) (r : Ty) → result_ok (p.typing ns) ≡ k → result_ok (part_as x p ns >>= λ _. Ok r) ≡ given (has x k) r

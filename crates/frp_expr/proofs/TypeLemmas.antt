@@ -20,6 +20,9 @@ pub has_some : (x : Ty) (o : Option Ty) → has x o ≡ true → o ≡ Some x
 has_some x None h = absurd cc
 has_some x (Some y) h = ap Some ((ty_decides y x).0 h)
 
+pub some_has : (x : Ty) (o : Option Ty) → o ≡ Some x → has x o ≡ true
+some_has x o e = ap (has x) e ∙ (ty_decides x x).1 refl
+
 first_in : (w : Ty-F Ty) (x : Ty) → first_type_in w ≡ Some x → (b : Ty) × (roll-Ty w ≡ t.Pair x b)
 first_in (u.Pair a b) x e = let q : a ≡ x = cc in (b, t.rolls-Pair a b ∙ ap (λ (a : Ty). t.Pair a b) q)
 first_in _ x e = absurd cc

@@ -28,7 +28,7 @@ use Rattle.frp_expr.specs.declared.raw.TyForm.TheOpen as y
 use Rattle.frp_expr.specs.declared.raw.Raw.{Raw, roll-Raw, fold-roll-Raw, map-Raw, ind-Raw, Raw-F}
 use Rattle.frp_expr.specs.declared.raw.RawForm.{RawForm, RawForm-F, roll-RawForm, fold-RawForm, fold-roll-RawForm, map-RawForm}
 use Rattle.frp_expr.specs.declared.raw.RawForm.TheOpen as o
-use Rattle.frp_base.proofs.Booleans.{both_true}
+use Rattle.frp_base.proofs.Booleans.{both_true, and_false}
 use Rattle.frp_expr.proofs.Outcomes.{next, ok_bind, ok_or_fault, part_ok, as_ok, as_then, as_so, two_ok, first_then, guarded}
 
 -- Written types: one that is plain has no fault, and one that has a fault is not plain.
@@ -68,10 +68,6 @@ one_part w a f h n = elim h [
   | inl e ↦ inl (ap (λ (w : ExprOutcome Ty). w >>= λ p. Ok (f p)) e)
   | inr d ↦ inr (ok_bind w (λ p. Ok (f p)) ∙ ap (λ k. next k (λ p. Some (f p))) d.0, n)
 ]
-
-and_false : (b : Bool) → b && false ≡ false
-and_false true = refl
-and_false false = refl
 
 two_parts : (w v : ExprOutcome Ty) (a b : Ty) (f : Ty → Ty → Ty) → Plainly w a → Plainly v b → (is_plain a ≡ false → is_plain (f a b) ≡ false) → (is_plain b ≡ false → is_plain (f a b) ≡ false)
     → Plainly (w >>= λ p. v >>= λ q. Ok (f p q)) (f a b)
@@ -212,10 +208,7 @@ module _ (funs : List Fun) where
   unequal [] [] ts e = absurd cc
   unequal [] (k ∷ ks) ts e = refl
   unequal (x ∷ xs) [] ts e = refl
-  unequal (x ∷ xs) (k ∷ ks) ts e = ap (λ b. has x (k ts) && b) (unequal xs ks ts (grind (arith, common_steps))) ∙ no (has x (k ts)) where
-    no : (b : Bool) → b && false ≡ false
-    no true = refl
-    no false = refl
+  unequal (x ∷ xs) (k ∷ ks) ts e = ap (λ b. has x (k ts) && b) (unequal xs ks ts (grind (arith, common_steps))) ∙ and_false (has x (k ts))
 
   close_ok : (at : ℕ) (g : Fun) (ys : List Such) (ns : List Named) → all_lawful ys ≡ true → result_ok (close_of at g (parts ys) ns) ≡ given (each_has g.1 (kinds ys (names_of ns)) (types_of ns)) (t.Fun g.2 g.3)
   close_ok at g ys ns h = by_count (length (parts ys) == length g.1) refl where

@@ -66,26 +66,26 @@ abbrev pub of_one : Expr → Val → Val
 of_one x a = one_step (out-Expr x) a
 
 -- the value of an operator that looks at two values; that of each other expression is of no matter
-abbrev pub seen_step : Expr-F Expr → Val → Val → Val
-seen_step (e.Add _ _) a b = v.Int (wrapped (int_of a +ℤ int_of b))
-seen_step (e.Sub _ _) a b = v.Int (wrapped (int_of a -ℤ int_of b))
-seen_step (e.Mul _ _) a b = v.Int (wrapped (int_of a *ℤ int_of b))
-seen_step (e.Div _ _) a b = v.Int (quotient (int_of a) (int_of b))
-seen_step (e.Rem _ _) a b = v.Int (remainder (int_of a) (int_of b))
-seen_step (e.Lt _ _) a b = v.Bool (int_lt (int_of a) (int_of b))
-seen_step (e.Eq _ _) a b = v.Bool (val_eq a b)
-seen_step (e.And _ _) a b = v.Bool (bool_of a && bool_of b)
-seen_step _ a b = v.Bool (bool_of a || bool_of b)
+abbrev pub of_two_seen_step : Expr-F Expr → Val → Val → Val
+of_two_seen_step (e.Add _ _) a b = v.Int (wrapped (int_of a +ℤ int_of b))
+of_two_seen_step (e.Sub _ _) a b = v.Int (wrapped (int_of a -ℤ int_of b))
+of_two_seen_step (e.Mul _ _) a b = v.Int (wrapped (int_of a *ℤ int_of b))
+of_two_seen_step (e.Div _ _) a b = v.Int (quotient (int_of a) (int_of b))
+of_two_seen_step (e.Rem _ _) a b = v.Int (remainder (int_of a) (int_of b))
+of_two_seen_step (e.Lt _ _) a b = v.Bool (int_lt (int_of a) (int_of b))
+of_two_seen_step (e.Eq _ _) a b = v.Bool (val_eq a b)
+of_two_seen_step (e.And _ _) a b = v.Bool (bool_of a && bool_of b)
+of_two_seen_step _ a b = v.Bool (bool_of a || bool_of b)
 
-abbrev pub seen : Expr → Val → Val → Val
-seen x a b = seen_step (out-Expr x) a b
+abbrev pub of_two_seen : Expr → Val → Val → Val
+of_two_seen x a b = of_two_seen_step (out-Expr x) a b
 
 -- the value of an operator on two values
 abbrev pub two_step : Expr-F Expr → Expr → Val → Val → Val
 two_step (e.Pair _ _) x a b = v.Pair a b
 two_step (e.Append _ _) x a b = v.List (appended (items_of a) (items_of b))
 two_step (e.Cat _ _) x a b = v.Text (cut (text_of a ++ text_of b))
-two_step _ x a b = seen x a b
+two_step _ x a b = of_two_seen x a b
 
 abbrev pub of_two : Expr → Val → Val → Val
 of_two x a b = two_step (out-Expr x) x a b

@@ -5,7 +5,7 @@ ghost use Rattle.std.specs.Fmt.{signed_decimal};
 ghost use Rattle.frp_base.specs.declared.val.Val.TheVariants as val;
 ghost use Rattle.frp_expr.specs.Operators.{appended as put_together, cut};
 ghost use Rattle.frp_expr.specs.Parts.{zero_val, int_of, bool_of, text_of, items_of};
-ghost use Rattle.frp_expr.specs.Eval.{eval, each_value, of_one, of_two, seen, has_one, has_two};
+ghost use Rattle.frp_expr.specs.Eval.{eval, each_value, of_one, of_two, of_two_seen, has_one, has_two};
 
 use crate::expr::Expr;
 use crate::operators::{
@@ -257,13 +257,13 @@ fn of_two(alloc: Global, e: &Expr, a: Val, b: Val) -> Result<Val, Memory>
         Expr::Pair(_, _) => paired(alloc, a, b),
         Expr::Append(_, _) => appended(alloc, a, b),
         Expr::Cat(_, _) => joined(alloc, a, b),
-        _ => Ok(seen(e, &a, &b)),
+        _ => Ok(of_two_seen(e, &a, &b)),
     }
 }
 
 /// The value of an operator that looks at two values.
-fn seen(e: &Expr, a: &Val, b: &Val) -> Val
-    ensures { result ≡ seen e.now a.now b.now }
+fn of_two_seen(e: &Expr, a: &Val, b: &Val) -> Val
+    ensures { result ≡ of_two_seen e.now a.now b.now }
 {
     match e {
         Expr::Add(_, _) => Val::Int(sum(a, b)),

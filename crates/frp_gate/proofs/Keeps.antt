@@ -1,6 +1,7 @@
 -- Each step keeps the rule of the room.
 use Rattle.std.proofs.Common.{◌≡◌, ◌≢◌, ◌⊎◌, ℕ, zero, suc, ◌+◌, ◌%◌, ◌^◌, ◌<◌, ◌≤◌, ◌==◌, if◌then◌else◌, eq-eqb, ne_eqb, List, [], ◌∷◌, ◌++◌, length, set, refl, sym, ap, ◌∙◌, subst, inl, inr, ⊎_elim, arith, Option, Some, None, Bool, true, false, true≢false, length-append, length-set}
 use Rattle.std.specs.Prelude.{slice_index}
+use Rattle.frp_base.proofs.Booleans.{is_false}
 use mathlib.Core.Logic.{dite}
 use mathlib.Core.Option.{some, none, some-injective, some-ne-none}
 use native.Mathlib.Decide.{ℕ_discrete}
@@ -47,10 +48,6 @@ redirect_else f from to j ne = if_false (f j == from) to (f j) (ne_eqb (f j) fro
 
 both_ways : (b : Bool) → b ≡ true → b ≡ false → ⊥
 both_ways b t f = true≢false (sym t ∙ f)
-
-is_false : (b : Bool) → (b ≡ true → ⊥) → b ≡ false
-is_false true never = absurd (never refl)
-is_false false _ = refl
 
 module _ {A : Type 0} where
   set_there : (l : List A) (i : ℕ) (a b : A) → get_elem? l i ≡ some a → get_elem? (set l i b) i ≡ some b

@@ -12,14 +12,15 @@ use Rattle.std.proofs.lemmas.List.Elements.{filter-append}
 use Rattle.frp_base.specs.declared.time.Time.{Time}
 use Rattle.frp_base.specs.Time.{time_eq, time_cmp, parent_and_number}
 use Rattle.frp_base.proofs.OrderLemmas.{time_cmp-transitive, time_cmp-equal}
+use Rattle.frp_base.proofs.Booleans.{is_true, is_false}
 use Rattle.frp_graph.specs.declared.trace.Node.{Node}
 use Rattle.frp_graph.specs.declared.trace.Moment.{Moment}
 use Rattle.frp_graph.specs.declared.trace.Sent.{Sent}
 use Rattle.frp_graph.specs.Trace.{live, moment_at, moments_before}
 use Rattle.frp_graph.specs.Births.{build}
-use Rattle.frp_graph.specs.Moments.{AtEach, items_to_split, live_at, splits_at, is_child_due, is_due, is_of, transaction, moments_of}
+use Rattle.frp_graph.specs.Moments.{AtEach, items_to_split, live_at, splits_at, is_child_due, is_due, is_of_transaction, transaction, moments_of}
 use Rattle.frp_graph.proofs.Order.{lt_less}
-use Rattle.frp_graph.proofs.Lists.{is_true, is_false, time_same}
+use Rattle.frp_graph.proofs.Lists.{time_same}
 use Rattle.frp_graph.proofs.Times.{parent_begins}
 use Rattle.frp_graph.proofs.Transactions.{moment_of_some, none_unsent}
 
@@ -201,20 +202,20 @@ before_place j k l (n ∷ t) h =
     let c : nat_lt n j ≡ true = sym a ∙ h in
     b ∙ (let d : nat_lt n k ≡ true = grind (arith, nat_tests) in d)
 
-pub of_before : (j k : ℕ) → j < k → (t : Time) → is_of j t ≡ true → before k t ≡ true
+pub of_before : (j k : ℕ) → j < k → (t : Time) → is_of_transaction j t ≡ true → before k t ≡ true
 of_before j k l [] h = absurd cc
 of_before j k l (n ∷ t) h = before_first n k t ∙ (let d : nat_lt n k ≡ true = grind (arith, nat_tests) in d)
 
 -- a moment of a transaction is before no earlier place, nor of an earlier transaction; one before a place isn't of its
-pub not_before : (j k : ℕ) → j ≤ k → (t : Time) → is_of k t ≡ true → before j t ≡ false
+pub not_before : (j k : ℕ) → j ≤ k → (t : Time) → is_of_transaction k t ≡ true → before j t ≡ false
 not_before j k l [] h = absurd cc
 not_before j k l (n ∷ t) h = before_first n j t ∙ (let d : nat_lt n j ≡ false = grind (arith, nat_tests) in d)
 
-pub not_earlier : (j k : ℕ) → j < k → (t : Time) → is_of k t ≡ true → is_of j t ≡ false
+pub not_earlier : (j k : ℕ) → j < k → (t : Time) → is_of_transaction k t ≡ true → is_of_transaction j t ≡ false
 not_earlier j k l [] h = refl
 not_earlier j k l (n ∷ t) h = grind (arith, nat_tests)
 
-pub not_of : (k : ℕ) (t : Time) → before k t ≡ true → is_of k t ≡ false
+pub not_of : (k : ℕ) (t : Time) → before k t ≡ true → is_of_transaction k t ≡ false
 not_of k [] h = refl
 not_of k (n ∷ t) h = let l : nat_lt n k ≡ true = sym (before_first n k t) ∙ h in grind (arith, nat_tests)
 
@@ -223,7 +224,7 @@ module _ (k : ℕ) (trace : List Moment) where
   before_few j l = filter_within (λ m. before j m.time) (λ m. before k m.time) (λ m. before_place j k l m.time) trace
 
   pub transaction_few : (j : ℕ) → j < k → transaction j (moments_before (k ∷ []) trace) ≡ transaction j trace
-  transaction_few j l = filter_within (λ m. is_of j m.time) (λ m. before k m.time) (λ m. of_before j k l m.time) trace
+  transaction_few j l = filter_within (λ m. is_of_transaction j m.time) (λ m. before k m.time) (λ m. of_before j k l m.time) trace
 
   pub count_few : (j : ℕ) → j < k → moments_of j (moments_before (k ∷ []) trace) ≡ moments_of j trace
   count_few j l = ap length (transaction_few j l)
@@ -231,7 +232,7 @@ module _ (k : ℕ) (trace : List Moment) where
 -- A trace whose sends are all before a place has its moments before it.
 
 module _ (k : ℕ) where
-  time_early : (t : Time) → ((n : ℕ) → k ≤ n → is_of n t ≡ false) → before k t ≡ true
+  time_early : (t : Time) → ((n : ℕ) → k ≤ n → is_of_transaction n t ≡ false) → before k t ≡ true
   time_early [] f = refl
   time_early (n ∷ t) f = before_first n k t ∙ is_true (nat_lt n k) (λ e.
       let l : k ≤ n = grind (arith, nat_tests) in
@@ -245,7 +246,7 @@ module _ (k : ℕ) where
 
   all_early : (ms : List Moment) → ((n : ℕ) → k ≤ n → moments_of n ms ≡ 0) → AllByRecursion (λ m. before k m.time ≡ true) ms
   all_early [] f = tt
-  all_early (m ∷ ms) f = let p = λ (n : ℕ) (l : k ≤ n). none_first (is_of n m.time) m (transaction n ms) (f n l) in (time_early m.time (λ n l. (p n l).0), all_early ms (λ n l. (p n l).1))
+  all_early (m ∷ ms) f = let p = λ (n : ℕ) (l : k ≤ n). none_first (is_of_transaction n m.time) m (transaction n ms) (f n l) in (time_early m.time (λ n l. (p n l).0), all_early ms (λ n l. (p n l).1))
 
   unsent : (n : ℕ) → k ≤ n → (sends : List Sent) → AllByRecursion (λ s. s.place < k) sends → list_any (λ s. s.place == n) sends ≡ false
   unsent n l [] h = refl

@@ -13,10 +13,7 @@ use Rattle.frp_graph.specs.Sends.{sent_values, folded, combined, join_of}
 use Rattle.frp_graph.specs.Laws.{is_sent_at, IsCombined}
 use Rattle.frp_graph.proofs.Lists.{name_eq-same, time_eq-same}
 use Rattle.frp_graph.proofs.Sending.{values_joined}
-
-not_true : (b : Bool) → not b ≡ true → b ≡ false
-not_true true h = absurd cc
-not_true false h = refl
+use Rattle.frp_base.proofs.Booleans.{not_true}
 
 -- Values of one sink.
 

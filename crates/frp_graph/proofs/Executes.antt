@@ -16,13 +16,13 @@ use Rattle.frp_base.specs.declared.val.Val.{Val, out-Val}
 use Rattle.frp_base.specs.declared.val.Val.TheOpen.{Val-F}
 use Rattle.frp_base.specs.declared.val.Val.TheOpen as o
 use Rattle.frp_base.specs.Name.{made_name}
-use Rattle.frp_base.proofs.TyLemmas.{ty_decides}
+use Rattle.frp_base.proofs.TyLemmas.{ty_decides, out_cell, out_stream}
 use Rattle.frp_expr.specs.declared.expr.Expr.{Expr}
 use Rattle.frp_expr.specs.Eval.{eval}
 use Rattle.frp_expr.specs.Typing.{◌>>=◌, type_in}
 use Rattle.frp_expr.specs.Uses.{uses}
 use Rattle.frp_expr.specs.Values.{is_node_of}
-use Rattle.frp_base.proofs.Booleans.{both_true, true_both}
+use Rattle.frp_base.proofs.Booleans.{both_true, true_both, or_true}
 use Rattle.frp_expr.proofs.TypeLemmas.{bind_some}
 use Rattle.frp_expr.proofs.ValueLemmas.{Layer, opened}
 use Rattle.frp_graph.specs.declared.trace.Node as trace
@@ -37,28 +37,16 @@ use Rattle.frp_graph.specs.Applied.{name_in, target}
 use Rattle.frp_graph.specs.TypedProg.{Pattern, sigs, patterns, cell_in, cell_item, is_cell, all_types, are_typed_lines, given_types}
 use Rattle.frp_graph.specs.Values.{type_among, is_value, are_values, held_in, fits_node}
 use Rattle.frp_graph.specs.WellFormed.{seen_fits, fits_cell, Allows, IsWellFormed, HasFirsts}
-use Rattle.frp_graph.specs.Births.{Plan, Instance, Execution, reference, node_of, values_from, plans_from, size_of, instance, execution}
+use Rattle.frp_graph.specs.Roles.{Execution, execution}
+use Rattle.frp_graph.specs.Births.{Plan, Instance, reference, node_of, values_from, plans_from, size_of, instance}
 use Rattle.frp_graph.specs.ShapeLaws.{IsInstance, InstancesAreThere}
-use Rattle.frp_graph.proofs.Lists.{or_true}
 use Rattle.frp_graph.proofs.Options.{some_there, then_is}
 use Rattle.frp_graph.proofs.Instances.{plans_size}
 use Rattle.frp_graph.proofs.TypedUses.{AreWhere, where_all, where_fewer, where_more, used_is_typed}
 use Rattle.frp_graph.proofs.Templates.{IsTemplate, template_at}
+use Rattle.frp_graph.proofs.TypedValues.{cell_from, node_is}
 
 -- Cells and streams.
-
-out_cell : (a : Ty) → out-Ty (t.Cell a) ≡ u.Cell a
-out_cell a = ap out-Ty (sym (t.rolls-Cell a)) ∙ out-roll-Ty (u.Cell a)
-
-out_stream : (a : Ty) → out-Ty (t.Stream a) ≡ u.Stream a
-out_stream a = ap out-Ty (sym (t.rolls-Stream a)) ∙ out-roll-Ty (u.Stream a)
-
-cell_of_in : (w : Ty-F Ty) (a : Ty) → cell_in w ≡ Some a → roll-Ty w ≡ t.Cell a
-cell_of_in (u.Cell b) a e = let same : b ≡ a = cc in t.rolls-Cell b ∙ ap (λ (b : Ty). t.Cell b) same
-cell_of_in _ a e = absurd cc
-
-cell_of_item : (x a : Ty) → cell_item x ≡ Some a → x ≡ t.Cell a
-cell_of_item x a e = sym (roll-out-Ty x) ∙ cell_of_in (out-Ty x) a e
 
 -- the node that is there of a type
 node_of_type : (node : Name → Option trace.Node) (n : Name) (x : Ty) → type_among node n ≡ Some x
@@ -130,15 +118,11 @@ module _ (prog : Prog) (w : Sight) (formed : IsWellFormed prog w) (firsts : HasF
   cell_named (o.Cell n) x a h = h
   cell_named _ x a h = absurd cc
 
-  of_type : (x : Ty) (o : Option Ty) → is_node_of x o ≡ true → o ≡ Some x
-  of_type x None h = absurd cc
-  of_type x (Some y) h = ap Some ((ty_decides y x).0 h)
-
   cell_referred : (y : Val) (a : Ty) → is_value prog w.node y (t.Cell a) ≡ true
       → type_among w.node (target y) ≡ Some (t.Cell a)
   cell_referred y a h =
       let layer = opened (type_among w.node) (sigs prog) y (t.Cell a) (u.Cell a) (t.rolls-Cell a) h in
-      of_type (t.Cell a) (type_among w.node (target y)) (cell_named (out-Val y) (t.Cell a) a layer)
+      node_is (t.Cell a) (type_among w.node (target y)) (cell_named (out-Val y) (t.Cell a) a layer)
 
   -- The values of a body are there: those that are no nodes which it makes are of their types among the live nodes.
 
@@ -154,7 +138,7 @@ module _ (prog : Prog) (w : Sight) (formed : IsWellFormed prog w) (firsts : HasF
       let x = bind_some (type_in (sigs prog) c ts) cell_item a e in
       let are = where_fewer (type_among w.node) (sigs prog) (is_other made) clean vs ts fewer h in
       let typed = used_is_typed (type_among w.node) (sigs prog) (length ts) clean past c vs ts x.0 used are x.1 in
-      let cell : is_value prog w.node (eval c vs) (t.Cell a) ≡ true = rw (cell_of_item x.0 a x.2) at typed in
+      let cell : is_value prog w.node (eval c vs) (t.Cell a) ≡ true = rw (cell_from x.0 a x.2) at typed in
       let y = node_of_type w.node (node_of vs c) (t.Cell a) (cell_referred (eval c vs) a cell) in
       cell_value (node_of vs c) y.0 a y.1 y.2
     where

@@ -14,7 +14,8 @@ use Rattle.frp_graph.specs.declared.prog.Line3.{Line3}
 use Rattle.frp_graph.specs.declared.prog.Line3.TheVariants as line
 use Rattle.frp_graph.specs.declared.trace.Node.{Node}
 use Rattle.frp_graph.specs.Trace.{Sight, Each}
-use Rattle.frp_graph.specs.Births.{Plan, Execution, build, values_from, plans_from, file_plans, execution, instance, plans_of, plans_by, plan_in, plan_as}
+use Rattle.frp_graph.specs.Roles.{Execution, execution}
+use Rattle.frp_graph.specs.Births.{Plan, build, values_from, plans_from, file_plans, instance, plans_of, plans_by, plan_in, plan_as}
 use Rattle.frp_graph.specs.FirstValues.{IsBornAs, AreBorn, AreExactly, are_all_born}
 use Rattle.frp_graph.proofs.Lists.{time_eq-same}
 use Rattle.frp_graph.proofs.InOrder.{born_in_order}

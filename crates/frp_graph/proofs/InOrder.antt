@@ -6,14 +6,14 @@ use Rattle.std.specs.List.Sorted.{IsStrictlySortedBy}
 use Rattle.std.specs.declared.cmp.Ordering.TheVariants.{Less, Equal}
 use Rattle.frp_base.specs.declared.name.Name.{Name}
 use Rattle.frp_base.specs.Name.{name_eq, name_cmp}
-use Rattle.frp_base.proofs.Booleans.{true_both}
+use Rattle.frp_base.proofs.Booleans.{true_both, is_false}
 use Rattle.frp_graph.specs.declared.prog.Prog.{Prog}
 use Rattle.frp_graph.specs.declared.trace.Node.{Node}
 use Rattle.frp_graph.specs.Trace.{Sight, node_in}
 use Rattle.frp_graph.specs.Births.{Plan, plan_in}
 use Rattle.frp_graph.specs.FirstValues.{IsBornAs, AreBorn, are_all_born}
 use Rattle.frp_graph.specs.Laws.{AreThose}
-use Rattle.frp_graph.proofs.Lists.{name_same, name_eq-same, is_false}
+use Rattle.frp_graph.proofs.Lists.{name_same, name_eq-same}
 use Rattle.frp_graph.proofs.Order.{name_cmp-same}
 
 -- a name that comes before those of some nodes is of none of them

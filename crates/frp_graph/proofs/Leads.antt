@@ -15,7 +15,8 @@ use Rattle.frp_graph.specs.Trace.{Sight}
 use Rattle.frp_graph.specs.Applied.{target}
 use Rattle.frp_graph.specs.Links.{targets, operands, fixed_links, during_links, after_links, birth_links, is_new, is_new_cell}
 use Rattle.frp_graph.specs.ShapeLaws.{IsHeld, LinksLead}
-use Rattle.frp_graph.proofs.Lists.{either_true, or_true, name_same, name_eq-same}
+use Rattle.frp_graph.proofs.Lists.{name_same, name_eq-same}
+use Rattle.frp_base.proofs.Booleans.{either_true, or_true}
 
 -- A name among names.
 

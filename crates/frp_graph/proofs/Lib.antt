@@ -31,3 +31,4 @@ pub mod TypedFirsts
 pub mod TypedTemplates
 pub mod TypedBodies
 pub mod TypedRows
+pub mod Readable

@@ -7,7 +7,8 @@ use Rattle.frp_base.specs.declared.name.Name.{Name}
 use Rattle.frp_base.specs.Name.{name_eq}
 use Rattle.frp_graph.specs.declared.trace.Node.{Node}
 use Rattle.frp_graph.specs.Trace.{Sight, Each, or_else, node_in}
-use Rattle.frp_graph.proofs.Lists.{chosen, name_same, name_eq-same, node_found}
+use Rattle.frp_graph.proofs.Lists.{name_same, name_eq-same, node_found}
+use Rattle.frp_base.proofs.Booleans.{chosen}
 
 -- a node that is found is of the name, and what holds of each node of the list holds of it
 pub found_named : (nodes : List Node) (n : Name) (x : Node) → node_in nodes n ≡ Some x → x.name ≡ n

@@ -9,29 +9,22 @@ use Rattle.frp_base.specs.declared.name.Name.{Name}
 use Rattle.frp_base.specs.Time.{time_eq}
 use Rattle.frp_base.specs.Name.{name_eq, name_cmp, maker}
 use Rattle.frp_base.proofs.OrderLemmas.{name_cmp-total, name_cmp-transitive}
-use Rattle.frp_base.proofs.Booleans.{both_true}
+use Rattle.frp_base.proofs.Booleans.{both_true, chosen, is_false}
 use Rattle.frp_graph.specs.declared.prog.Prog.{Prog}
 use Rattle.frp_graph.specs.declared.trace.Node.{Node}
 use Rattle.frp_graph.specs.Trace.{Sight, node_in}
 use Rattle.frp_graph.specs.Births.{Plan, build, file_plans, plans_by, plan_in, plan_as}
 use Rattle.frp_graph.specs.FirstValues.{IsBornAs, AreExactly, are_all_born}
-use Rattle.frp_graph.proofs.Lists.{chosen, is_false, name_same, name_eq-same, time_same}
+use Rattle.frp_graph.proofs.Lists.{name_same, name_eq-same, time_same}
 use Rattle.frp_graph.proofs.Order.{name_cmp-same}
 use Rattle.frp_graph.proofs.Nodes.{found_named, found_holds, found_first}
+use Rattle.frp_graph.proofs.Options.{some_there, test_some}
 
 -- Options.
-
-there : {A : Type 0} (o : Option A) → is_some o ≡ true → (a : A) × (o ≡ Some a)
-there None h = absurd cc
-there (Some a) h = (a, refl)
 
 given_next : {A B : Type 0} (f : A → Option B) (o : Option A) (b : B) → option_and_then f o ≡ Some b → (a : A) × ((o ≡ Some a) × (f a ≡ Some b))
 given_next f None b h = absurd cc
 given_next f (Some a) b h = (a, (refl, h))
-
-kept_if : {A : Type 0} (b : Bool) (o : Option A) (a : A) → (if b then o else None) ≡ Some a → (b ≡ true) × (o ≡ Some a)
-kept_if true o a h = (refl, h)
-kept_if false o a h = absurd cc
 
 -- Lists of nodes by rising name, in which the same nodes are found.
 
@@ -128,7 +121,7 @@ module _ (prog : Prog) (w : Sight) where
 
     -- what is planned is born
     planned_there : (n : Name) (o : Option Name) (d : Plan) → planned_by n o ≡ Some d → is_some (node_in born n) ≡ true
-    planned_there n None d h = let k = kept_if (time_eq w.time build) (plan_in (file_plans prog) n) d h in is_there (file_plans prog) n d k.1 (all.file_is_born (time_same w.time build k.0))
+    planned_there n None d h = let k = test_some (time_eq w.time build) (plan_in (file_plans prog) n) d h in is_there (file_plans prog) n d k.1 (all.file_is_born (time_same w.time build k.0))
     planned_there n (Some e) d h =
         let g = given_next (λ x. plan_in (plans_by prog w x) n) (w.node e) d h in
         is_there (plans_by prog w g.0) n d g.1.1 (all.each_is_born e g.0 g.1.0)
@@ -141,7 +134,7 @@ module _ (prog : Prog) (w : Sight) where
   born_in born others a b n x h =
       let p = as_planned born a n x h in
       let d = is_planned (plan_as prog w n) x p in
-      let y = there (node_in others n) (planned_there others b n (maker n) d.0 d.1) in
+      let y = some_there (node_in others n) (planned_there others b n (maker n) d.0 d.1) in
       y.1 ∙ ap Some (one_node (plan_as prog w n) y.0 x (as_planned others b n y.0 y.1) p)
 
 pub births_are_one : (prog : Prog) (w : Sight) (born others : List Node) → IsStrictlySortedBy name_cmp (map (λ x. x.name) born) → IsStrictlySortedBy name_cmp (map (λ x. x.name) others)

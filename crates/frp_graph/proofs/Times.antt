@@ -3,7 +3,7 @@ use Rattle.std.proofs.Common.{◌≡◌, ℕ, suc, [], ◌∷◌, ◌++◌, leng
 use Rattle.std.specs.Prelude.{option_map}
 use Rattle.frp_base.specs.declared.time.Time.{Time}
 use Rattle.frp_base.specs.Time.{parent_and_number}
-use Rattle.frp_graph.specs.Moments.{is_of}
+use Rattle.frp_graph.specs.Moments.{is_of_transaction}
 
 longer : (n : ℕ) (t u : Time) (i : ℕ) (p : Option (Time × ℕ)) → ((v : Time) → p ≡ Some (v, i) → t ≡ v ++ i ∷ [])
     → option_map {U = Time × ℕ} (λ (q : Time × ℕ). (n ∷ q.0, q.1)) p ≡ Some (u, i) → n ∷ t ≡ u ++ i ∷ []
@@ -37,9 +37,9 @@ parent_begins n (k ∷ []) u i h =
 parent_begins n (m ∷ k ∷ t) u i h = parent_in n u i (parent_and_number (m ∷ k ∷ t)) h
 
 -- a child is of its parent's transaction, and one number longer
-pub child_of : (k : ℕ) (t u : Time) (i : ℕ) → parent_and_number t ≡ Some (u, i) → (is_of k t ≡ is_of k u) × (length t ≡ suc (length u))
+pub child_of : (k : ℕ) (t u : Time) (i : ℕ) → parent_and_number t ≡ Some (u, i) → (is_of_transaction k t ≡ is_of_transaction k u) × (length t ≡ suc (length u))
 child_of k [] u i h = absurd cc
 child_of k (n ∷ t) u i h =
     let b = parent_begins n t u i h in
     let c = child_is (n ∷ t) u i h in
-    (ap (is_of k) (sym b.1), ap length c ∙ simp length-append (omega arith))
+    (ap (is_of_transaction k) (sym b.1), ap length c ∙ simp length-append (omega arith))

@@ -11,10 +11,11 @@ use Rattle.frp_graph.specs.declared.trace.Moment.{Moment}
 use Rattle.frp_graph.specs.Trace.{moment_at}
 use Rattle.frp_graph.specs.declared.trace.Sent.{Sent}
 use Rattle.frp_graph.specs.Births.{build}
-use Rattle.frp_graph.specs.Moments.{splits_at, is_child_due, is_due, is_of, transaction, moments_of}
+use Rattle.frp_graph.specs.Moments.{splits_at, is_child_due, is_due, is_of_transaction, transaction, moments_of}
 use Rattle.frp_graph.proofs.Times.{child_of}
 use Rattle.std.proofs.lemmas.Bool.Decides.{nat_tests}
-use Rattle.frp_graph.proofs.Lists.{or_true, either_true, time_same, time_eq-same}
+use Rattle.frp_graph.proofs.Lists.{time_same, time_eq-same}
+use Rattle.frp_base.proofs.Booleans.{or_true, either_true}
 
 -- Filtered traces.
 
@@ -55,21 +56,21 @@ some_test false None = refl
 some_test false (Some m) = refl
 
 pub transaction_is : (sends : List Sent) (trace : List Moment) → ((t : Time) → is_some (moment_at trace t) ≡ is_due sends trace t) → (k : ℕ) (t : Time)
-    → is_some (moment_at (transaction k trace) t) ≡ (is_due sends trace t && is_of k t)
-transaction_is sends trace h k t = ap is_some (moment_of_some (is_of k) trace t) ∙ some_test (is_of k t) (moment_at trace t) ∙ ap (λ b. b && is_of k t) (h t)
+    → is_some (moment_at (transaction k trace) t) ≡ (is_due sends trace t && is_of_transaction k t)
+transaction_is sends trace h k t = ap is_some (moment_of_some (is_of_transaction k) trace t) ∙ some_test (is_of_transaction k t) (moment_at trace t) ∙ ap (λ b. b && is_of_transaction k t) (h t)
 
 -- A place without a send has no moments.
 
 module _ (sends : List Sent) (trace : List Moment) (due : (t : Time) → is_some (moment_at trace t) ≡ is_due sends trace t) (k : ℕ) (later : k ≡ 0 → ⊥)
     (unsent : list_any (λ s. s.place == k) sends ≡ false) where
   -- a time of one number that is due is the build's or a send's
-  no_build : (t : Time) → is_of k t ≡ true → time_eq build t ≡ true → ⊥
-  no_build t h e = let o : is_of k build ≡ true = subst (λ u. is_of k u ≡ true) (sym (time_same build t e)) h in later (grind (arith, nat_tests))
+  no_build : (t : Time) → is_of_transaction k t ≡ true → time_eq build t ≡ true → ⊥
+  no_build t h e = let o : is_of_transaction k build ≡ true = subst (λ u. is_of_transaction k u ≡ true) (sym (time_same build t e)) h in later (grind (arith, nat_tests))
 
-  no_send : (t : Time) → is_of k t ≡ true → (ss : List Sent) → list_any (λ s. time_eq (s.place ∷ []) t) ss ≡ true → list_any (λ s. s.place == k) ss ≡ true
+  no_send : (t : Time) → is_of_transaction k t ≡ true → (ss : List Sent) → list_any (λ s. time_eq (s.place ∷ []) t) ss ≡ true → list_any (λ s. s.place == k) ss ≡ true
   no_send t h [] e = e
   no_send t h (s ∷ ss) e = elim (either_true (time_eq (s.place ∷ []) t) (list_any (λ s. time_eq (s.place ∷ []) t) ss) e) [
-    | inl z ↦ let o : is_of k (s.place ∷ []) ≡ true = subst (λ u. is_of k u ≡ true) (sym (time_same (s.place ∷ []) t z)) h in rw o refl
+    | inl z ↦ let o : is_of_transaction k (s.place ∷ []) ≡ true = subst (λ u. is_of_transaction k u ≡ true) (sym (time_same (s.place ∷ []) t z)) h in rw o refl
     | inr r ↦ let o = no_send t h ss r in rw o (or_true (s.place == k))
   ]
 
@@ -78,9 +79,9 @@ module _ (sends : List Sent) (trace : List Moment) (due : (t : Time) → is_some
   splits_there u i (Some m) h = refl
 
   abbrev None_at : ℕ → Type 0
-  None_at n = (u : Time) → length u ≤ n → is_of k u ≡ true → is_some (moment_at trace u) ≡ true → ⊥
+  None_at n = (u : Time) → length u ≤ n → is_of_transaction k u ≡ true → is_some (moment_at trace u) ≡ true → ⊥
 
-  no_child : (n : ℕ) → None_at n → (t : Time) (p : Option (Time × ℕ)) → length t ≤ suc n → parent_and_number t ≡ p → is_of k t ≡ true → is_child_due trace p ≡ true → ⊥
+  no_child : (n : ℕ) → None_at n → (t : Time) (p : Option (Time × ℕ)) → length t ≤ suc n → parent_and_number t ≡ p → is_of_transaction k t ≡ true → is_child_due trace p ≡ true → ⊥
   no_child n none t None l e h c = absurd cc
   no_child n none t (Some p) l e h c =
       let s = child_of k t p.0 p.1 e in
@@ -110,8 +111,8 @@ module _ (sends : List Sent) (trace : List Moment) (due : (t : Time) → is_some
 
   none_from : (ks ms : List Moment) → ks ++ ms ≡ trace → moments_of k ms ≡ 0
   none_from ks [] e = refl
-  none_from ks (m ∷ ms) e = by (is_of k m.time) refl (none_from (ks ++ m ∷ []) ms (append_assoc ks (m ∷ []) ms ∙ e)) where
-    by : (b : Bool) → is_of k m.time ≡ b → moments_of k ms ≡ 0 → length (cond b (m ∷ filter (λ m. is_of k m.time) ms) (filter (λ m. is_of k m.time) ms)) ≡ 0
+  none_from ks (m ∷ ms) e = by (is_of_transaction k m.time) refl (none_from (ks ++ m ∷ []) ms (append_assoc ks (m ∷ []) ms ∙ e)) where
+    by : (b : Bool) → is_of_transaction k m.time ≡ b → moments_of k ms ≡ 0 → length (cond b (m ∷ filter (λ m. is_of_transaction k m.time) ms) (filter (λ m. is_of_transaction k m.time) ms)) ≡ 0
     by true h r = absurd (none_at (length m.time) m.time (omega arith) h (subst (λ ts. is_some (moment_at ts m.time) ≡ true) e (found_last ks ms m)))
     by false h r = r
 

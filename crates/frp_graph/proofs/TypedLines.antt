@@ -24,7 +24,7 @@ use Rattle.frp_graph.specs.declared.shape.Shape.{Shape}
 use Rattle.frp_graph.specs.Trace.{Sight}
 use Rattle.frp_graph.specs.Values.{type_among, is_value, are_values}
 use Rattle.frp_graph.specs.Births.{lam_of, node_of, shape_of, given_by}
-use Rattle.frp_graph.specs.TypedProg.{Pattern, patterns, sigs, stream_item, cell_item, is_stream, is_cell, types_at, stream_of, cell_of, option_item, result_for, lam_type, shape_type, is_tied}
+use Rattle.frp_graph.specs.TypedProg.{Pattern, patterns, sigs, stream_item, cell_item, is_stream, is_cell, types_at, stream_of, cell_of, option_item, result_for, lam_type, shape_type, has_tied_type}
 use Rattle.frp_graph.specs.WellFormed.{fits_cell, Returns, Allows}
 use Rattle.frp_graph.specs.ShapeLaws.{IsAllowedLine}
 use Rattle.frp_graph.proofs.Options.{some_is}
@@ -164,12 +164,12 @@ module _ (prog : Prog) (w : Sight) (all vs : List Val) (all_types ts : List Ty) 
   ps = patterns prog
 
   -- what a loop is tied to is of its type
-  tied_is : (x : Ty) (to : ℕ) → IsNodeType x → is_tied (sigs prog) prog.codes ps all_types x (Loop to) ≡ true → Allows prog w x (shape_of all vs (Loop to))
+  tied_is : (x : Ty) (to : ℕ) → IsNodeType x → has_tied_type (sigs prog) prog.codes ps all_types x (Loop to) ≡ true → Allows prog w x (shape_of all vs (Loop to))
   tied_is x to k h =
       let found = has_some x (slice_get all_types to) h in
       (k, refers (type_among w.node) (sigs prog) (slice_index_or all to zero_val) x k (variable_is (type_among w.node) (sigs prog) all all_types to x all_among found))
 
-  line_allowed : (x : Ty) (shape : LineShape) → MakesType prog ps ts x shape → is_tied (sigs prog) prog.codes ps all_types x shape ≡ true → Allows prog w x (shape_of all vs shape)
+  line_allowed : (x : Ty) (shape : LineShape) → MakesType prog ps ts x shape → has_tied_type (sigs prog) prog.codes ps all_types x shape ≡ true → Allows prog w x (shape_of all vs shape)
   line_allowed x Sink p h = (given_some _ x x p).0
   line_allowed x Never p h = (given_some _ x x p).0
   line_allowed x (Constant e) p h = let a = bind_some (type_in (sigs prog) e ts) _ x p in subst (λ (y : Ty). is_cell y ≡ true) (sym (some_is _ _ a.2)) (cell_is a.0)
@@ -252,7 +252,7 @@ module _ (prog : Prog) (w : Sight) (all vs : List Val) (all_types ts : List Ty) 
       cell_has prog w.node a.0 x (eval e vs) (sym (given_some _ _ x b.2).1) (value_is prog w ps vs ts among e a.0 a.1)
   given_fits x _ p n s = refl
 
-  pub line_is_allowed : (x : Ty) (shape : LineShape) → has x (shape_type (sigs prog) prog.codes ps ts x shape) && is_tied (sigs prog) prog.codes ps all_types x shape ≡ true → IsAllowedLine prog w all vs x shape
+  pub line_is_allowed : (x : Ty) (shape : LineShape) → has x (shape_type (sigs prog) prog.codes ps ts x shape) && has_tied_type (sigs prog) prog.codes ps all_types x shape ≡ true → IsAllowedLine prog w all vs x shape
   line_is_allowed x shape h =
       let q = both_true _ _ h in
       let typed = has_some x (shape_type (sigs prog) prog.codes ps ts x shape) q.0 in

@@ -10,15 +10,16 @@ use Rattle.frp_expr.specs.declared.expr.Expr.{Expr}
 use Rattle.frp_expr.specs.Types.{given}
 use Rattle.frp_expr.specs.Typing.{Sig, ◌>>=◌, has, each_has, type_in}
 use Rattle.frp_base.proofs.Booleans.{both_true, true_both}
-use Rattle.frp_expr.proofs.TypeLemmas.{bind_some, has_some}
-use Rattle.frp_expr.proofs.MoreFuns.{bind_more, get_more}
+use Rattle.frp_base.proofs.Lists.{get_more}
+use Rattle.frp_expr.proofs.TypeLemmas.{bind_some, has_some, some_has}
+use Rattle.frp_expr.proofs.MoreFuns.{bind_more}
 use Rattle.frp_graph.specs.declared.prog.Body.{Body}
 use Rattle.frp_graph.specs.declared.prog.Prog.{Prog}
 use Rattle.frp_graph.specs.declared.prog.Line3.{Line3}
 use Rattle.frp_graph.specs.declared.prog.Line3.TheVariants.{Node, Get}
 use Rattle.frp_graph.specs.declared.prog.LineShape.{LineShape}
 use Rattle.frp_graph.specs.declared.prog.LineShape.TheVariants.{Loop, Execute}
-use Rattle.frp_graph.specs.TypedProg.{Pattern, IsTypedProg, patterns, patterns_in, patterns_of, pattern_of, gives_type, is_typed_template, sigs, stream_of, cell_of, shape_type, is_tied, all_types, given_types, is_typed_line, are_typed_lines, depth_of}
+use Rattle.frp_graph.specs.TypedProg.{Pattern, IsTypedProg, patterns, patterns_in, patterns_of, pattern_of, gives_type, is_typed_template, sigs, stream_of, cell_of, shape_type, has_tied_type, all_types, given_types, is_typed_line, are_typed_lines, depth_of}
 use Rattle.frp_graph.proofs.Options.{some_is, some_there, test_some}
 
 -- Lines over more patterns.
@@ -37,18 +38,15 @@ module _ (sigs : List Sig) (codes : List Expr) (few others : List Pattern) where
   shape_more ts x (Execute s k kept) h = execute_more (stream_of sigs codes few ts s) k (λ a d. ty_eq a d.param && each_has d.kept (map (type_in sigs) kept) ts) x h
   shape_more ts x _ h = h
 
-  tied_more : (all : List Ty) (x : Ty) (shape : LineShape) → is_tied sigs codes few all x shape ≡ true → is_tied sigs codes many all x shape ≡ true
+  tied_more : (all : List Ty) (x : Ty) (shape : LineShape) → has_tied_type sigs codes few all x shape ≡ true → has_tied_type sigs codes many all x shape ≡ true
   tied_more all x (Loop to) h = h
   tied_more all x _ h = refl
-
-  has_it : (x : Ty) (o : Option Ty) → o ≡ Some x → has x o ≡ true
-  has_it x o e = subst (λ (o : Option Ty). has x o ≡ true) (sym e) ((ty_decides x x).1 refl)
 
   line_more : (all ts : List Ty) (made : List ℕ) (l : Line3) → is_typed_line sigs codes few all ts made l ≡ true → is_typed_line sigs codes many all ts made l ≡ true
   line_more all ts made (Node x shape) h =
       let q = both_true _ _ h in
       let typed = shape_more ts x shape (has_some x (shape_type sigs codes few ts x shape) q.0) in
-      true_both _ _ (has_it x (shape_type sigs codes many ts x shape) typed) (tied_more all x shape q.1)
+      true_both _ _ (some_has x (shape_type sigs codes many ts x shape) typed) (tied_more all x shape q.1)
   line_more all ts made (Get c) h = h
 
   lines_more : (all ts : List Ty) (made : List ℕ) (ls : List Line3) → are_typed_lines sigs codes few all ts made ls ≡ true → are_typed_lines sigs codes many all ts made ls ≡ true

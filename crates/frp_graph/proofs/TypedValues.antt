@@ -15,7 +15,7 @@ use Rattle.frp_base.proofs.TyLemmas.{ty_decides}
 use Rattle.frp_expr.specs.Parts.{items_of}
 use Rattle.frp_expr.specs.Typing.{Sig}
 use Rattle.frp_expr.specs.Values.{is_node_of, each_of, is_of, are_of}
-use Rattle.frp_base.proofs.Booleans.{both_true, true_both}
+use Rattle.frp_base.proofs.Booleans.{both_true, true_both, or_true}
 use Rattle.frp_expr.proofs.TypeLemmas.{given_some}
 use Rattle.frp_expr.proofs.ValueLemmas.{Layer, AllOf, made, opened, list_parts}
 use Rattle.frp_expr.proofs.ValuesStay.{stays}
@@ -25,7 +25,6 @@ use Rattle.frp_graph.specs.Applied.{name_in, target, present_in}
 use Rattle.frp_graph.specs.Births.{reference_in, reference}
 use Rattle.frp_graph.specs.TypedProg.{stream_in, cell_in, stream_item, cell_item, is_stream, is_cell, option_in, option_item, result_in, result_for}
 use Rattle.frp_graph.specs.Values.{is_value, held_in, is_of_held, fits_node}
-use Rattle.frp_graph.proofs.Lists.{or_true}
 
 -- Types of streams and cells.
 
@@ -111,7 +110,7 @@ module _ (prog : Prog) (node : Name → Option Node) where
 
 -- Values, where the types of the nodes are these.
 
-node_is : (x : Ty) (p : Option Ty) → is_node_of x p ≡ true → p ≡ Some x
+pub node_is : (x : Ty) (p : Option Ty) → is_node_of x p ≡ true → p ≡ Some x
 node_is x None h = absurd cc
 node_is x (Some y) h = ap Some ((ty_decides y x).0 h)
 

@@ -11,8 +11,9 @@ use Rattle.frp_graph.specs.declared.trace.Fact.{Fact}
 use Rattle.frp_graph.specs.declared.trace.Moment.{Moment}
 use Rattle.frp_graph.specs.Trace.{or_else, fact_in, node_first, node_in, pre, post, occ, value_after}
 use Rattle.frp_graph.specs.Laws.{IsFact}
-use Rattle.frp_graph.proofs.Lists.{chosen, name_same, name_eq-same}
+use Rattle.frp_graph.proofs.Lists.{name_same, name_eq-same}
 use Rattle.frp_graph.proofs.Facts.{one_fact}
+use Rattle.frp_base.proofs.Booleans.{chosen}
 
 -- a value that is found is that of a fact
 pub found_is : (fs : List Fact) (n : Name) (v : Val) → fact_in fs n ≡ Some v → IsFact fs n v

@@ -24,6 +24,7 @@ use Rattle.frp_graph.specs.declared.shape.Lam.{Lam}
 use Rattle.frp_graph.specs.declared.shape.Shape.{Shape}
 use Rattle.frp_graph.specs.declared.shape.Shape.TheVariants as s
 use Rattle.frp_graph.specs.Trace.{Sight}
+use Rattle.frp_graph.specs.Roles.{execution}
 use Rattle.frp_graph.specs.Applied.{target}
 
 -- the time of the build
@@ -33,7 +34,14 @@ build = 0 ∷ []
 -- the reference to a node of this type
 abbrev pub reference_in : Ty-F Ty → Name → Val
 reference_in (t.Cell a) n = v.Cell n
-reference_in _ n = v.Stream n
+reference_in t.Int n = v.Stream n
+reference_in t.Bool n = v.Stream n
+reference_in t.Text n = v.Stream n
+reference_in (t.Pair a b) n = v.Stream n
+reference_in (t.List a) n = v.Stream n
+reference_in (t.Stream a) n = v.Stream n
+reference_in (t.Fun a b) n = v.Stream n
+reference_in (t.Option a) n = v.Stream n
 
 abbrev pub reference : Ty → Name → Val
 reference x n = reference_in (out-Ty x) n
@@ -141,18 +149,7 @@ instance prog w n template kept a = do
   e ← body.give
   Some (record { nodes = plans_from (made_name n w.time) all 0 (length kept + 1) body.lines; result = eval e all })
 
--- What an execute is: the stream at whose occurrences it makes instances of a template, with these kept values. Only an
--- execute makes nodes.
-pub record Execution : Type 0 where
-  pub source : Name
-  pub template : ℕ
-  pub kept : List Val
-
-abbrev pub execution : Shape → Option Execution
-execution (s.Execute a template kept) = Some (record { source = a; template = template; kept = kept })
-execution _ = None
-
--- the instance that a node of this name and shape makes, seen so: an execute makes one where its source fires
+-- the instance that a node of this name and shape makes, seen so: an execute makes one where its source fires, and only an execute does
 abbrev pub instance_in : Prog → Sight → Name → Shape → Option Instance
 instance_in prog w n shape = option_and_then (λ e. option_and_then (instance prog w n e.template e.kept) (w.occ e.source)) (execution shape)
 

@@ -24,10 +24,11 @@ use Rattle.frp_graph.specs.declared.evidence.Evidence.{Evidence}
 use Rattle.frp_graph.specs.declared.limits.Limits.{Limits}
 use Rattle.frp_graph.specs.Trace.{Sight, Each, live, moment_at, sight_of, post_in}
 use Rattle.frp_graph.specs.Applied.{target}
-use Rattle.frp_graph.specs.Births.{build, Plan, Instance, Execution, execution, instance_in, file_plans, plan_as}
+use Rattle.frp_graph.specs.Roles.{Execution, execution}
+use Rattle.frp_graph.specs.Births.{build, Plan, Instance, instance_in, file_plans, plan_as}
 use Rattle.frp_graph.specs.Equations.{MeetsEquation}
 use Rattle.frp_graph.specs.FirstValues.{first_value, IsMadeAs, are_all_born}
-use Rattle.frp_graph.specs.Moments.{is_due, is_of, AtEach, IsMoment}
+use Rattle.frp_graph.specs.Moments.{is_due, is_of_transaction, AtEach, IsMoment}
 use Rattle.frp_graph.specs.Sound.{IsSoundAfter, KeepsLimits}
 use Rattle.frp_graph.specs.Links.{links, is_linked, is_linked_by, is_path, are_distinct, is_closed_chain, IsChainless}
 
@@ -40,7 +41,7 @@ pub record IsReached (prog : Prog) (limits : Limits) (sends : List Sent) (k : �
   pub sound : AtEach (IsSoundAfter prog) [] past
   pub within : KeepsLimits limits past
   pub last_due : IsTrue (is_due sends past last.time)
-  pub of_this : IsTrue (list_all (λ m. is_of k m.time) (done ++ last ∷ []))
+  pub of_this : IsTrue (list_all (λ m. is_of_transaction k m.time) (done ++ last ∷ []))
   pub room : length done < limits.moments
 
 -- Ranks and the level.
@@ -114,7 +115,10 @@ HasFirstAs prog w (Some d) x = HasFirst prog w d x
 
 abbrev pub is_birth_chain : Why → Bool
 is_birth_chain (Chain Birth names) = true
-is_birth_chain _ = false
+is_birth_chain (Chain During names) = false
+is_birth_chain (Chain After names) = false
+is_birth_chain (Endless limit) = false
+is_birth_chain (Full node limit) = false
 
 -- What is seen at the last time is w, and these nodes are below the level.
 module _ (prog : Prog) (sends : List Sent) (w : Sight) (last : Moment) (below : Name → Bool) where
@@ -191,7 +195,7 @@ module _ (prog : Prog) (sends : List Sent) (w : Sight) (last : Moment) (below : 
     pub chainless : IsChainless w
     pub settled : length done + 1 ≡ limit
     pub more : Time
-    pub of_this : IsTrue (is_of k more)
+    pub of_this : IsTrue (is_of_transaction k more)
     pub more_due : IsTrue (is_due sends (past ++ last ∷ []) more)
     pub more_new : moment_at (past ++ last ∷ []) more ≡ None
 

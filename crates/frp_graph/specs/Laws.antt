@@ -17,7 +17,7 @@ use Rattle.frp_graph.specs.Applied.{call}
 use Rattle.frp_graph.specs.Sends.{join_of, sent_in}
 use Rattle.frp_graph.specs.Births.{Plan, plan_in}
 use Rattle.frp_graph.specs.FirstValues.{IsBornAs, AreExactly, AreBorn, are_all_born}
-use Rattle.frp_graph.specs.Moments.{IsTrace, IsMoment, AtEach, is_due, is_of, transaction, moments_of}
+use Rattle.frp_graph.specs.Moments.{IsTrace, IsMoment, AtEach, is_due, is_of_transaction, transaction, moments_of}
 use Rattle.frp_graph.specs.Links.{is_path, are_distinct, is_closed_chain}
 
 -- among these facts is one of the node with this value
@@ -57,7 +57,7 @@ EarlierMomentsStay = (prog : Prog) (sends : List Sent) (trace : List Moment) (m 
 abbrev pub TransactionsAreDue : Type 0
 TransactionsAreDue = (prog : Prog) (sends : List Sent) (trace : List Moment) → IsTrace prog sends trace → (k : ℕ)
     → IsStrictlySortedBy time_cmp (map (λ m. m.time) (transaction k trace))
-    × ((t : Time) → is_some (moment_at (transaction k trace) t) ≡ (is_due sends trace t && is_of k t))
+    × ((t : Time) → is_some (moment_at (transaction k trace) t) ≡ (is_due sends trace t && is_of_transaction k t))
 
 -- A place that is not the build's and of no send has no moments.
 abbrev pub NoneUnsent : Type 0

@@ -4,7 +4,6 @@ use Rattle.std.specs.List.{AllByRecursion, list_any}
 use Rattle.std.specs.List.Sorted.{IsStrictlySortedBy}
 use Rattle.std.specs.Ordering.{is_gt}
 use Rattle.frp_base.specs.declared.time.Time.{Time}
-use Rattle.frp_base.specs.declared.name.Name.{Name}
 use Rattle.frp_base.specs.declared.val.Val.{Val, out-Val}
 use Rattle.frp_base.specs.Time.{time_eq, time_cmp, parent_and_number}
 use Rattle.frp_base.specs.Name.{name_cmp}
@@ -15,20 +14,15 @@ use Rattle.frp_graph.specs.declared.trace.Moment.{Moment}
 use Rattle.frp_graph.specs.declared.trace.Sent.{Sent}
 use Rattle.frp_graph.specs.declared.prog.Prog.{Prog}
 use Rattle.frp_graph.specs.declared.shape.Shape.{Shape}
-use Rattle.frp_graph.specs.declared.shape.Shape.TheVariants.{Split}
 use Rattle.frp_graph.specs.Trace.{Sight, Each, live, moment_at, occ, sight_of}
+use Rattle.frp_graph.specs.Roles.{split_source}
 use Rattle.frp_graph.specs.Equations.{MeetsEquation}
 use Rattle.frp_graph.specs.Births.{build}
 use Rattle.frp_graph.specs.FirstValues.{AreExactly}
 
 -- Due are the build, the time of each send, and child i of a moment where a live split's source has an item i.
 
--- the stream whose items a split gives; only a split has children
-abbrev pub split_source : Shape → Option Name
-split_source (Split s) = Some s
-split_source _ = None
-
--- how many items a node of this shape has to give of what happened at a moment
+-- how many items a node of this shape has to give of what happened at a moment; only a split has children
 abbrev pub items_to_split : Moment → Shape → ℕ
 items_to_split m shape = count (option_and_then (occ m) (split_source shape)) where
   count : Option Val → ℕ
@@ -51,13 +45,13 @@ abbrev pub is_due : List Sent → List Moment → Time → Bool
 is_due sends trace t = time_eq build t || list_any (λ s. time_eq (s.place ∷ []) t) sends || is_child_due trace (parent_and_number t)
 
 -- the transaction of a time is its first number: whether a time is of transaction k
-abbrev pub is_of : ℕ → Time → Bool
-is_of k [] = false
-is_of k (n ∷ ns) = n == k
+abbrev pub is_of_transaction : ℕ → Time → Bool
+is_of_transaction k [] = false
+is_of_transaction k (n ∷ ns) = n == k
 
 -- the moments of transaction k, and how many they are
 abbrev pub transaction : ℕ → List Moment → List Moment
-transaction k trace = filter (λ m. is_of k m.time) trace
+transaction k trace = filter (λ m. is_of_transaction k m.time) trace
 
 abbrev pub moments_of : ℕ → List Moment → ℕ
 moments_of k trace = length (transaction k trace)

@@ -1,5 +1,5 @@
 -- Sends: what is sent to a sink at a time, and which sends a graph can take.
-use Rattle.std.specs.Prelude.{ℕ, Bool, false, true, ◌&&◌, List, [], ◌∷◌, map, filter, Option, Some, None, option_map, IsTrue, if◌then◌else◌}
+use Rattle.std.specs.Prelude.{ℕ, Bool, false, ◌&&◌, List, [], ◌∷◌, map, filter, Option, Some, None, option_map, IsTrue, if◌then◌else◌}
 use Rattle.std.specs.List.{AllByRecursion}
 use Rattle.frp_base.specs.declared.name.Name.{Name}
 use Rattle.frp_base.specs.declared.time.Time.{Time}
@@ -11,9 +11,8 @@ use Rattle.frp_graph.specs.declared.trace.Moment.{Moment}
 use Rattle.frp_graph.specs.declared.trace.Sent.{Sent}
 use Rattle.frp_graph.specs.declared.prog.Joint.{Joint}
 use Rattle.frp_graph.specs.declared.prog.Prog.{Prog}
-use Rattle.frp_graph.specs.declared.shape.Shape.{Shape}
-use Rattle.frp_graph.specs.declared.shape.Shape.TheVariants as s
 use Rattle.frp_graph.specs.Trace.{live, node_in, moments_before}
+use Rattle.frp_graph.specs.Roles.{is_sink_shape}
 use Rattle.frp_graph.specs.Applied.{call}
 use Rattle.frp_graph.specs.Values.{fits_node}
 
@@ -25,9 +24,12 @@ join_in (j ∷ js) n = if name_eq (declared_name j.item) n then Some j.code else
 abbrev pub join_of : Prog → Name → Option ℕ
 join_of prog n = join_in prog.joins n
 
--- the values that are sent to a sink at a time, in order
+-- whether a send is to this sink at a time, and the values of those that are, in order
+abbrev pub is_sent_to : Time → Name → Sent → Bool
+is_sent_to t n s = time_eq t (s.place ∷ []) && name_eq s.sink n
+
 abbrev pub sent_values : List Sent → Time → Name → List Val
-sent_values sends t n = map (λ s. s.value) (filter (λ s. time_eq t (s.place ∷ []) && name_eq s.sink n) sends)
+sent_values sends t n = map (λ s. s.value) (filter (is_sent_to t n) sends)
 
 -- an expression of the program, applied from the left: to the first two values, then to what that gives and the next
 abbrev pub folded : Prog → ℕ → Val → List Val → Val
@@ -43,11 +45,6 @@ combined prog join (v ∷ w ∷ vs) = option_map (λ code. folded prog code v (w
 -- the value that was sent to a sink at a time
 abbrev pub sent_in : Prog → List Sent → Time → Name → Option Val
 sent_in prog sends t n = combined prog (join_of prog n) (sent_values sends t n)
-
--- whether a node is an input
-abbrev pub is_sink_shape : Shape → Bool
-is_sink_shape s.Sink = true
-is_sink_shape _ = false
 
 -- whether this value can be sent to a node: it is a sink, and the value is of its type
 abbrev pub takes : Prog → (Name → Option Node) → Val → Option Node → Bool

@@ -19,36 +19,46 @@ use Rattle.frp_graph.specs.declared.prog.LineShape.{LineShape}
 use Rattle.frp_graph.specs.declared.shape.Shape.{Shape}
 use Rattle.frp_graph.specs.declared.evidence.Phase.{Phase}
 use Rattle.frp_graph.specs.declared.evidence.Phase.TheVariants.{During}
-use Rattle.frp_graph.specs.Trace.{Sight}
+use Rattle.frp_graph.specs.Trace.{Sight, post_in}
 use Rattle.frp_graph.specs.Applied.{target}
 use Rattle.frp_graph.specs.TypedProg.{sigs, patterns, is_typed_line}
 use Rattle.frp_graph.specs.Values.{type_among, are_values}
 use Rattle.frp_graph.specs.WellFormed.{seen_fits, fits_cell, Allows, IsWellFormed, HasFirsts}
-use Rattle.frp_graph.specs.Births.{Instance, Execution, shape_of, given_by, file_plans, size_of, instance, execution, instance_in, plans_by}
+use Rattle.frp_graph.specs.Roles.{Execution, execution}
+use Rattle.frp_graph.specs.Births.{Instance, shape_of, given_by, file_plans, size_of, instance, instance_in, plans_by}
 use Rattle.frp_graph.specs.Sends.{sent_in}
 use Rattle.frp_graph.specs.Equations.{row}
 use Rattle.frp_graph.specs.FirstValues.{first_value}
-use Rattle.frp_graph.specs.Links.{operands, links, links_by}
+use Rattle.frp_graph.specs.Links.{targets, operands, links, links_by}
 use Rattle.frp_graph.specs.Evidence.{has_reads}
 
 -- What is looked at.
 
--- what is there of the one is there of the other
+-- what is there of the one at a name, and at every name, is there of the other
+abbrev pub StaysAt : {A : Type 0} → (Name → Option A) → (Name → Option A) → Name → Type 0
+StaysAt {A} few many n = (x : A) → few n ≡ Some x → many n ≡ Some x
+
 abbrev pub Stays : {A : Type 0} → (Name → Option A) → (Name → Option A) → Type 0
-Stays {A} few many = (n : Name) (x : A) → few n ≡ Some x → many n ≡ Some x
+Stays few many = (n : Name) → StaysAt few many n
 
 -- An instance that is there stays as it is where more values before are there.
 abbrev pub InstancesStay : Type 0
 InstancesStay = (prog : Prog) (w u : Sight) (n : Name) (template : ℕ) (kept : List Val) (a : Val) (i : Instance)
     → u.time ≡ w.time → Stays w.pre u.pre → instance prog w n template kept a ≡ Some i → instance prog u n template kept a ≡ Some i
 
--- A row looks only at the occurrences of the nodes that its links of During lead to, at the values before that it reads, at the
--- occurrences of its operands at the parent of the time, and at what is sent to its own node.
+-- the values before of a shape's operands, and of the nodes that their values after refer to, stay
+abbrev pub ReadsStay : Sight → Sight → Shape → Type 0
+ReadsStay w u s = AllByRecursion (λ c. StaysAt w.pre u.pre c × AllByRecursion (StaysAt w.pre u.pre) (targets (post_in w c))) (operands s)
+
+-- A row looks only at the occurrences of the nodes that its links of During lead to, at the values before of its operands and
+-- of the nodes that these hold, at the instance that it makes, at the occurrences of its operands at the parent of the time,
+-- and at what is sent to its own node.
 abbrev pub RowsAgree : Type 0
 RowsAgree = (prog : Prog) (sends others : List Sent) (w u : Sight) (x : trace.Node)
     → u.time ≡ w.time
     → AllByRecursion (λ n. u.occ n ≡ w.occ n) (links w During x)
-    → Stays w.pre u.pre
+    → ReadsStay w u x.shape
+    → instance_in prog u x.name x.shape ≡ instance_in prog w x.name x.shape
     → AllByRecursion (λ n. u.above n ≡ w.above n) (operands x.shape)
     → sent_in prog others w.time x.name ≡ sent_in prog sends w.time x.name
     → IsTrue (has_reads prog w x x.shape)
@@ -149,3 +159,8 @@ abbrev pub InstancesAreThere : Type 0
 InstancesAreThere = (prog : Prog) (w : Sight) (n : Name) (x : trace.Node) (e : Execution) (v : Val)
     → IsWellFormed prog w → HasFirsts w → w.node n ≡ Some x → execution x.shape ≡ Some e → w.occ e.source ≡ Some v
     → IsInstance prog w x e
+
+-- In a well-formed graph with first values no row misses a value that it reads.
+abbrev pub ReadsAreThere : Type 0
+ReadsAreThere = (prog : Prog) (w : Sight) (n : Name) (x : trace.Node)
+    → IsWellFormed prog w → HasFirsts w → w.node n ≡ Some x → IsTrue (has_reads prog w x x.shape)

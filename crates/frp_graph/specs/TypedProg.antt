@@ -1,6 +1,6 @@
 -- Typed programs: each operand, expression, kept value, node and result has the type that is asked for in its place, and uses
 -- only what is declared before it.
-use Rattle.std.specs.Prelude.{◌≡◌, ℕ, ◌+◌, nat_le, Bool, true, false, not, ◌&&◌, ◌||◌, ◌==◌, List, [], ◌∷◌, ◌++◌, map, length, Option, Some, None, IsTrue, is_some, slice_get, unwrap_or, if◌then◌else◌, max}
+use Rattle.std.specs.Prelude.{◌≡◌, ℕ, ◌+◌, nat_le, Bool, true, false, not, ◌&&◌, ◌||◌, ◌==◌, List, [], ◌∷◌, ◌++◌, map, length, Option, Some, None, IsTrue, is_some, option_and_then, slice_get, unwrap_or, if◌then◌else◌, max}
 use Rattle.std.specs.Option.{option_to_list}
 use Rattle.std.specs.List.{list_any, list_all}
 use Rattle.frp_base.specs.declared.ty.Ty.{Ty, out-Ty}
@@ -21,17 +21,32 @@ use Rattle.frp_graph.specs.declared.prog.Line3.TheVariants.{Node, Get}
 use Rattle.frp_graph.specs.declared.prog.LineLam.{LineLam}
 use Rattle.frp_graph.specs.declared.prog.LineShape.{LineShape}
 use Rattle.frp_graph.specs.declared.prog.LineShape.TheVariants.{Sink, Never, Constant, Map, Filter, Filteropt, Merge, Snapshot, Split, Updates, Value, Loop, Hold, Mapc, Apply, Switchs, Switchc, Execute}
+use Rattle.frp_graph.specs.Roles.{line_role, is_input_line, tied_in, template_in}
 
 -- Types.
 
 -- what a stream and a cell hold
 abbrev pub stream_in : Ty-F Ty → Option Ty
 stream_in (o.Stream a) = Some a
-stream_in _ = None
+stream_in o.Int = None
+stream_in o.Bool = None
+stream_in o.Text = None
+stream_in (o.Pair a b) = None
+stream_in (o.List a) = None
+stream_in (o.Cell a) = None
+stream_in (o.Fun a b) = None
+stream_in (o.Option a) = None
 
 abbrev pub cell_in : Ty-F Ty → Option Ty
 cell_in (o.Cell a) = Some a
-cell_in _ = None
+cell_in o.Int = None
+cell_in o.Bool = None
+cell_in o.Text = None
+cell_in (o.Pair a b) = None
+cell_in (o.List a) = None
+cell_in (o.Stream a) = None
+cell_in (o.Fun a b) = None
+cell_in (o.Option a) = None
 
 abbrev pub stream_item : Ty → Option Ty
 stream_item x = stream_in (out-Ty x)
@@ -48,7 +63,14 @@ is_cell x = is_some (cell_item x)
 -- what a function gives for an argument of this type
 abbrev pub result_in : Ty → Ty-F Ty → Option Ty
 result_in a (o.Fun x y) = given (ty_eq x a) y
-result_in a _ = None
+result_in a o.Int = None
+result_in a o.Bool = None
+result_in a o.Text = None
+result_in a (o.Pair x y) = None
+result_in a (o.List x) = None
+result_in a (o.Stream x) = None
+result_in a (o.Cell x) = None
+result_in a (o.Option x) = None
 
 abbrev pub result_for : Ty → Ty → Option Ty
 result_for f a = result_in a (out-Ty f)
@@ -56,7 +78,14 @@ result_for f a = result_in a (out-Ty f)
 -- what an optional value holds
 abbrev pub option_in : Ty-F Ty → Option Ty
 option_in (o.Option a) = Some a
-option_in _ = None
+option_in o.Int = None
+option_in o.Bool = None
+option_in o.Text = None
+option_in (o.Pair a b) = None
+option_in (o.List a) = None
+option_in (o.Stream a) = None
+option_in (o.Cell a) = None
+option_in (o.Fun a b) = None
 
 abbrev pub option_item : Ty → Option Ty
 option_item x = option_in (out-Ty x)
@@ -168,9 +197,11 @@ module _ (sigs : List Sig) (codes : List Expr) (patterns : List Pattern) where
     given (ty_eq a d.param && each_has d.kept (map (type_in sigs) kept) ts) (t.Stream d.gives)
 
   -- whether what a loop is tied to, among values of all these types, has its type
-  abbrev pub is_tied : List Ty → Ty → LineShape → Bool
-  is_tied all x (Loop to) = has x (slice_get all to)
-  is_tied all x _ = true
+  abbrev pub has_tied_type : List Ty → Ty → LineShape → Bool
+  has_tied_type all x shape = is_of_type (tied_in (line_role shape)) where
+    is_of_type : Option ℕ → Bool
+    is_of_type None = true
+    is_of_type (Some to) = has x (slice_get all to)
 
   -- the type of the value of a line, over values of these types; one that is got is Int where it has none
   abbrev pub line_type : List Ty → Line3 → Ty
@@ -184,7 +215,7 @@ module _ (sigs : List Sig) (codes : List Expr) (patterns : List Pattern) where
 
   -- A line over values of these types, of which those at the positions `made` are the nodes that the body makes.
   abbrev pub is_typed_line : List Ty → List Ty → List ℕ → Line3 → Bool
-  is_typed_line all ts made (Node x shape) = has x (shape_type ts x shape) && is_tied all x shape
+  is_typed_line all ts made (Node x shape) = has x (shape_type ts x shape) && has_tied_type all x shape
   is_typed_line all ts made (Get c) = is_some (cell_of ts c) && not (list_any (λ i. list_any (λ j. i == j) made) (uses (length ts) c))
 
   -- the positions of the nodes that are made, with that of this line
@@ -225,16 +256,16 @@ is_node_line (Node x shape) = true
 is_node_line (Get c) = false
 
 abbrev pub is_no_sink : Line3 → Bool
-is_no_sink (Node x Sink) = false
-is_no_sink _ = true
+is_no_sink (Node x shape) = not (is_input_line (line_role shape))
+is_no_sink (Get c) = true
 
 -- how deep a template is that executes these: one more than the deepest
 abbrev pub line_depth : List Pattern → Line3 → ℕ
-line_depth patterns (Node x (Execute s k kept)) = depth_in (slice_get patterns k) where
+line_depth patterns (Get c) = 0
+line_depth patterns (Node x shape) = depth_in (option_and_then (slice_get patterns) (template_in (line_role shape))) where
   depth_in : Option Pattern → ℕ
   depth_in None = 0
   depth_in (Some d) = d.depth
-line_depth patterns _ = 0
 
 abbrev pub depth_of : List Pattern → List Line3 → ℕ
 depth_of patterns [] = 1
@@ -272,13 +303,14 @@ patterns prog = unwrap_or (patterns_in prog) []
 -- Combining expressions.
 
 -- what the sends to a sink are of, where the line makes a sink
-abbrev pub sink_item : Option Line3 → Option Ty
-sink_item (Some (Node x Sink)) = stream_item x
-sink_item _ = None
+abbrev pub sent_type : Option Line3 → Option Ty
+sent_type None = None
+sent_type (Some (Get c)) = None
+sent_type (Some (Node x shape)) = if is_input_line (line_role shape) then stream_item x else None
 
 -- a combining expression is of a sink of the file, and gives a value of the sink's type for two such values
 abbrev pub is_typed_join : Prog → Joint → Bool
-is_typed_join prog j = is_of_item (sink_item (slice_get prog.body.lines j.item)) where
+is_typed_join prog j = is_of_item (sent_type (slice_get prog.body.lines j.item)) where
   is_of_item : Option Ty → Bool
   is_of_item None = false
   is_of_item (Some a) = has a (slice_get prog.codes j.code >>= λ e. type_in (sigs prog) e (a ∷ a ∷ []))

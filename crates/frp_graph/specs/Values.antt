@@ -25,7 +25,13 @@ are_values prog node = are_of (type_among node) (sigs prog)
 abbrev pub held_in : Ty-F Ty → Option Ty
 held_in (t.Stream a) = Some a
 held_in (t.Cell a) = Some a
-held_in _ = None
+held_in t.Int = None
+held_in t.Bool = None
+held_in t.Text = None
+held_in (t.Pair a b) = None
+held_in (t.List a) = None
+held_in (t.Fun a b) = None
+held_in (t.Option a) = None
 
 -- whether a value is one that a node of this type holds
 abbrev pub is_of_held : Prog → (Name → Option Node) → Val → Option Ty → Bool

@@ -8,6 +8,7 @@ mod prog;
 mod shape;
 mod shape_laws;
 mod trace;
+mod view;
 
 pub use evidence::{Evidence, Phase, Ranked, Why};
 pub use frp_expr::Expr;
@@ -22,6 +23,7 @@ pub use prog::{Body, FunDef, Joint, Line3, LineLam, LineShape, Prog};
 pub use shape::{Lam, Shape};
 pub use shape_laws::{
     allowed_stays, files_are_whole, firsts_are_typed, instances_are_there, instances_stay,
-    lines_are_allowed, links_lead, names_are_given, rows_agree, rows_are_typed,
+    lines_are_allowed, links_lead, names_are_given, reads_are_there, rows_agree, rows_are_typed,
 };
 pub use trace::{Fact, Moment, Node, Sent};
+pub use view::View;

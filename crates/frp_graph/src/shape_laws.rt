@@ -1,12 +1,13 @@
-ghost use Rattle.frp_graph.specs.ShapeLaws.{InstancesStay, RowsAgree, LinksLead, NamesAreGiven, FilesAreWhole, AllowedStays, LinesAreAllowed, RowsAreTyped, FirstsAreTyped, InstancesAreThere};
+ghost use Rattle.frp_graph.specs.ShapeLaws.{InstancesStay, RowsAgree, LinksLead, NamesAreGiven, FilesAreWhole, AllowedStays, LinesAreAllowed, RowsAreTyped, FirstsAreTyped, InstancesAreThere, ReadsAreThere};
 
 /// An instance that is there stays as it is where more values before are there.
 pub fn instances_stay()
     ensures { InstancesStay }
 {}
 
-/// A row looks only at what its links of During lead to, at the values before that it reads, at its operands' occurrences at
-/// the parent of the time, and at what is sent to its own node.
+/// A row looks only at the occurrences of the nodes that its links of During lead to, at the values before of its operands and
+/// of the nodes that these hold, at the instance that it makes, at its operands' occurrences at the parent of the time, and at
+/// what is sent to its own node.
 pub fn rows_agree()
     ensures { RowsAgree }
 {}
@@ -50,4 +51,9 @@ pub fn firsts_are_typed()
 /// template makes.
 pub fn instances_are_there()
     ensures { InstancesAreThere }
+{}
+
+/// In a well-formed graph whose cells have first values no row misses a value that it reads.
+pub fn reads_are_there()
+    ensures { ReadsAreThere }
 {}

@@ -19,7 +19,8 @@ use Rattle.frp_history.specs.declared.history.Entry.{Entry}
 use Rattle.frp_history.specs.History.{entry_at, accepted_sends, sends_from, sends_of}
 use Rattle.frp_history.specs.Listeners.{listener}
 use Rattle.frp_history.specs.Legal.{RefusedOr, no_sends, no_node, no_listener, IsReply, AreReplies, IsLegal}
-use Rattle.frp_history.proofs.Sendings.{accepted_placed, all_both}
+use Rattle.frp_history.proofs.Sendings.{accepted_placed}
+use Rattle.frp_base.proofs.Lists.{all_both}
 
 -- Sends.
 

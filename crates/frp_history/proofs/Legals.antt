@@ -11,9 +11,9 @@ use Rattle.frp_graph.specs.declared.trace.Sent.{Sent}
 use Rattle.frp_graph.specs.declared.prog.Prog.{Prog}
 use Rattle.frp_graph.specs.declared.limits.Limits.{Limits}
 use Rattle.frp_graph.specs.Trace.{live, moments_before}
-use Rattle.frp_graph.specs.Moments.{AtEach, IsMoment, IsTrace, is_of, transaction, moments_of}
+use Rattle.frp_graph.specs.Moments.{AtEach, IsMoment, IsTrace, is_of_transaction, transaction, moments_of}
 use Rattle.frp_graph.specs.Sound.{IsSoundAfter, KeepsLimits}
-use Rattle.frp_graph.proofs.Lists.{all_follow, is_false, time_same}
+use Rattle.frp_graph.proofs.Lists.{time_same}
 use Rattle.frp_graph.proofs.Sending.{NotAt, sent_elsewhere, moments_moved}
 use Rattle.frp_graph.proofs.Transactions.{some_rise}
 use Rattle.frp_graph.proofs.Before.{before, before_first, all_before, begins, each_beginning, live_append, due_few, before_few, transaction_few, filter_none, filter_each, filter_apart, not_before, not_earlier, not_of, trace_early}
@@ -21,6 +21,8 @@ use Rattle.frp_history.specs.declared.history.Entry.{Entry}
 use Rattle.frp_history.specs.History.{accepted_sends, sends_of}
 use Rattle.frp_history.specs.Legal.{IsReply, AreReplies, IsLegal}
 use Rattle.frp_history.proofs.Sendings.{sends_of_more, sends_here, sends_before}
+use Rattle.frp_base.proofs.Booleans.{is_false}
+use Rattle.frp_base.proofs.Lists.{all_follow}
 
 -- Replies over two traces that agree before each place up to one, and in its transaction.
 
@@ -48,7 +50,7 @@ module _ (prog : Prog) (limits : Limits) where
 -- Sizes.
 
 count_append : (j : ℕ) (ms ks : List Moment) → moments_of j (ms ++ ks) ≡ moments_of j ms + moments_of j ks
-count_append j ms ks = ap length (filter-append (λ m. is_of j m.time) ms ks) ∙ length-append _ _
+count_append j ms ks = ap length (filter-append (λ m. is_of_transaction j m.time) ms ks) ∙ length-append _ _
 
 less_moments : (limits : Limits) (ms ks trace : List Moment) → trace ≡ ms ++ ks → KeepsLimits limits trace → KeepsLimits limits ms
 less_moments limits ms ks trace e h = record {
@@ -102,24 +104,24 @@ module _ (prog : Prog) (limits : Limits) (entries : List Entry) (e : Entry) (tra
 
 -- With one entry more.
 
-module _ (k : ℕ) (trace own : List Moment) (early : AllByRecursion (λ m. before k m.time ≡ true) trace) (here : AllByRecursion (λ m. is_of k m.time ≡ true) own) where
+module _ (k : ℕ) (trace own : List Moment) (early : AllByRecursion (λ m. before k m.time ≡ true) trace) (here : AllByRecursion (λ m. is_of_transaction k m.time ≡ true) own) where
   before_stays : (j : ℕ) → j ≤ k → moments_before (j ∷ []) (trace ++ own) ≡ moments_before (j ∷ []) trace
   before_stays j l = filter_apart (λ m. before j m.time) trace own (all_follow _ _ (λ m. not_before j k l m.time) own here)
 
   transaction_stays : (j : ℕ) → j < k → transaction j (trace ++ own) ≡ transaction j trace
-  transaction_stays j l = filter_apart (λ m. is_of j m.time) trace own (all_follow _ _ (λ m. not_earlier j k l m.time) own here)
+  transaction_stays j l = filter_apart (λ m. is_of_transaction j m.time) trace own (all_follow _ _ (λ m. not_earlier j k l m.time) own here)
 
   before_all : moments_before (k ∷ []) (trace ++ own) ≡ trace
   before_all = before_stays k (omega arith) ∙ filter_each (λ m. before k m.time) trace early
 
   transaction_own : transaction k (trace ++ own) ≡ own
   transaction_own =
-      filter-append (λ m. is_of k m.time) trace own
-      ∙ ap (λ ms. ms ++ transaction k own) (filter_none (λ m. is_of k m.time) trace (all_follow _ _ (λ m. not_of k m.time) trace early))
-      ∙ filter_each (λ m. is_of k m.time) own here
+      filter-append (λ m. is_of_transaction k m.time) trace own
+      ∙ ap (λ ms. ms ++ transaction k own) (filter_none (λ m. is_of_transaction k m.time) trace (all_follow _ _ (λ m. not_of k m.time) trace early))
+      ∙ filter_each (λ m. is_of_transaction k m.time) own here
 
 module _ (prog : Prog) (limits : Limits) (entries : List Entry) (e : Entry) (trace own : List Moment) (legal : IsLegal prog limits entries trace)
-    (here : AllByRecursion (λ m. is_of (length entries + 1) m.time ≡ true) own) where
+    (here : AllByRecursion (λ m. is_of_transaction (length entries + 1) m.time ≡ true) own) where
   early : AllByRecursion (λ m. before (length entries + 1) m.time ≡ true) trace
   early = trace_early (length entries + 1) (sends_of entries) trace legal.is_trace.due (omega arith) (sends_before entries)
 

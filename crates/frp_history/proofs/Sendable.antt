@@ -12,7 +12,8 @@ use Rattle.frp_graph.specs.declared.prog.Prog.{Prog}
 use Rattle.frp_graph.specs.declared.limits.Limits.{Limits}
 use Rattle.frp_graph.specs.Trace.{or_else, moments_before}
 use Rattle.frp_graph.specs.Values.{fits_node}
-use Rattle.frp_graph.specs.Sends.{is_sink_shape, takes, node_before, AreSendable}
+use Rattle.frp_graph.specs.Roles.{is_sink_shape}
+use Rattle.frp_graph.specs.Sends.{takes, node_before, AreSendable}
 use Rattle.frp_graph.specs.Moments.{transaction}
 use Rattle.frp_history.specs.declared.history.Cmd.{Cmd}
 use Rattle.frp_history.specs.declared.history.Cmd.TheVariants.{Send, Group, Join, Take, Leave}
@@ -23,7 +24,7 @@ use Rattle.frp_history.specs.declared.history.Reply.TheVariants.{Accepted, Refus
 use Rattle.frp_history.specs.declared.history.Entry.{Entry}
 use Rattle.frp_history.specs.History.{sends_at, accepted_sends, sends_from, sends_of}
 use Rattle.frp_history.specs.Legal.{RefusedOr, no_sink, no_sinks, sent_twice, no_sends, IsReply, AreReplies}
-use Rattle.frp_history.proofs.Sendings.{all_both}
+use Rattle.frp_base.proofs.Lists.{all_both}
 
 -- of two refusals, the first that is there, there is none
 neither : (a b : Option No) → or_else a b ≡ None → (a ≡ None) × (b ≡ None)

@@ -9,6 +9,7 @@ use Rattle.frp_history.specs.declared.history.Cmd.{Cmd}
 use Rattle.frp_history.specs.declared.history.Reply.{Reply}
 use Rattle.frp_history.specs.declared.history.Entry.{Entry}
 use Rattle.frp_history.specs.History.{is_accepted, sent_by, sends_at, accepted_sends, sends_from, sends_of}
+use Rattle.frp_base.proofs.Lists.{all_both}
 
 -- the sends of a history with one entry more
 sends_more : (k : ℕ) (es : List Entry) (e : Entry) → sends_from k (es ++ e ∷ []) ≡ sends_from k es ++ accepted_sends (k + length es) e.cmd e.reply
@@ -20,10 +21,6 @@ sends_more k (d ∷ es) e =
 
 pub sends_of_more : (es : List Entry) (e : Entry) → sends_of (es ++ e ∷ []) ≡ sends_of es ++ accepted_sends (length es + 1) e.cmd e.reply
 sends_of_more es e = sends_more 1 es e ∙ ap (λ j. sends_of es ++ accepted_sends j e.cmd e.reply) (let z : 1 + length es ≡ length es + 1 = omega arith in z)
-
-pub all_both : (P : Sent → Type 0) (xs ys : List Sent) → AllByRecursion P xs → AllByRecursion P ys → AllByRecursion P (xs ++ ys)
-all_both P [] ys a b = b
-all_both P (x ∷ xs) ys a b = (a.0, all_both P xs ys a.1 b)
 
 -- The places of sends.
 

@@ -10,7 +10,7 @@ use Rattle.frp_graph.specs.declared.prog.Prog.{Prog}
 use Rattle.frp_graph.specs.declared.limits.Limits.{Limits}
 use Rattle.frp_graph.specs.Trace.{occ, moments_before}
 use Rattle.frp_graph.specs.Sends.{AreSendable}
-use Rattle.frp_graph.specs.Moments.{AtEach, IsTrace, is_of, moments_of}
+use Rattle.frp_graph.specs.Moments.{AtEach, IsTrace, is_of_transaction, moments_of}
 use Rattle.frp_graph.specs.Sound.{IsSoundAfter, KeepsLimits}
 use Rattle.frp_history.specs.declared.history.Delivered.{Delivered}
 use Rattle.frp_history.specs.declared.history.Entry.{Entry}
@@ -39,7 +39,7 @@ LegalBefore = (prog : Prog) (limits : Limits) (entries : List Entry) (e : Entry)
 abbrev pub LegalAfter : Type 0
 LegalAfter = (prog : Prog) (limits : Limits) (entries : List Entry) (e : Entry) (trace own : List Moment)
     → IsLegal prog limits entries trace
-    → AllByRecursion (λ m. IsTrue (is_of (length entries + 1) m.time)) own
+    → AllByRecursion (λ m. IsTrue (is_of_transaction (length entries + 1) m.time)) own
     → IsTrace prog (sends_of (entries ++ e ∷ [])) (trace ++ own)
     → AtEach (IsSoundAfter prog) [] (trace ++ own)
     → KeepsLimits limits (trace ++ own)

@@ -22,7 +22,8 @@ use Rattle.frp_history.specs.declared.history.Reply.TheVariants.{Accepted, Refus
 use Rattle.frp_history.specs.declared.history.Entry.{Entry}
 use Rattle.frp_graph.specs.Trace.{or_else, live, node_in, moments_before}
 use Rattle.frp_graph.specs.Values.{fits_node}
-use Rattle.frp_graph.specs.Sends.{is_sink_shape, join_of}
+use Rattle.frp_graph.specs.Roles.{is_sink_shape}
+use Rattle.frp_graph.specs.Sends.{join_of}
 use Rattle.frp_graph.specs.Moments.{AtEach, IsTrace, transaction}
 use Rattle.frp_graph.specs.Sound.{IsSoundAfter, KeepsLimits}
 use Rattle.frp_graph.specs.Evidence.{IsTrueEvidence}

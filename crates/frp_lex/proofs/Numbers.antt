@@ -12,7 +12,7 @@ use Rattle.std.proofs.Math.Bool.{or-true}
 use Rattle.std.proofs.lemmas.Grind.{common_steps}
 use Rattle.frp_base.proofs.Booleans.{both_true, true_both}
 use Rattle.frp_lex.specs.Bytes.{is_digit}
-use Rattle.frp_lex.specs.Atoms.{number_from, value, fits_token, if_fits, is_plain_numeral, positive, negative, number}
+use Rattle.frp_lex.specs.Atoms.{number_from, value, fits_token, if_fits, is_plain_numeral, positive, negative, atom_number}
 
 value_above : (n : ℕ) (bs : List ℕ) → n ≤ number_from n bs
 value_above n [] = omega arith
@@ -153,13 +153,13 @@ negative_by bs z true d h =
     negated_spelled (value bs) z bs (plain_above bs d) g.0 g.1 (plain_spelled bs d)
 negative_by bs z false d h = absurd (let f = rw d at h in cc)
 
-number_by : (b : ℕ) (bs : List ℕ) (z : ℤ) (q : Bool) → (b == 45) ≡ q → number (b ∷ bs) ≡ Some z → IsSpelled z (b ∷ bs)
+number_by : (b : ℕ) (bs : List ℕ) (z : ℤ) (q : Bool) → (b == 45) ≡ q → atom_number (b ∷ bs) ≡ Some z → IsSpelled z (b ∷ bs)
 number_by b bs z true e h =
     let is : b ≡ 45 = grind (arith, common_steps) in
     let r = negative_by bs z (is_plain_numeral bs) refl (rw e at h) in
     (r.0, r.1 ∙ ap (λ (c : ℕ). c ∷ bs) (sym is))
 number_by b bs z false e h = positive_by (b ∷ bs) z (bytes_eq (b ∷ bs) (48 ∷ [])) (is_plain_numeral (b ∷ bs)) refl refl (rw e at h)
 
-pub number_spelled : (bs : List ℕ) (z : ℤ) → number bs ≡ Some z → IsSpelled z bs
+pub number_spelled : (bs : List ℕ) (z : ℤ) → atom_number bs ≡ Some z → IsSpelled z bs
 number_spelled [] z h = absurd cc
 number_spelled (b ∷ bs) z h = number_by b bs z (b == 45) refl h

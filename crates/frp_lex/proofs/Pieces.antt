@@ -12,7 +12,7 @@ use Rattle.frp_lex.specs.declared.token.Kind.{Kind}
 use Rattle.frp_lex.specs.declared.token.Kind.TheVariants as k
 use Rattle.frp_lex.specs.Gives.{LexOutcome, ◌>>=◌}
 use Rattle.frp_lex.specs.Bytes.{is_blank, is_digit, is_in_atom, is_in_comment, is_in_text}
-use Rattle.frp_lex.specs.Atoms.{number, is_name, is_word, name_most}
+use Rattle.frp_lex.specs.Atoms.{atom_number, is_name, is_word, name_most}
 use Rattle.frp_lex.specs.Quoted.{closing_quote, first_bad, unescaped, text_most}
 use Rattle.frp_lex.specs.Tokens.{Piece, number_or_fault, atom, atom_from, atom_piece, text, text_closed, text_inside, front}
 use Rattle.frp_lex.specs.Spelling.{spelled, is_lawful_token}
@@ -55,13 +55,13 @@ ok_same P a c e p = let f : a ≡ c = cc in subst P f p
 abbrev IsAtom : Kind → List ℕ → Type 0
 IsAtom kind bs = (spelled kind ≡ bs) × (is_lawful_token kind ≡ true) × ((rest : List ℕ) → ends_atom rest ≡ true → is_parted kind rest ≡ true)
 
-number_is : (at : ℕ) (bs : List ℕ) (kind : Kind) (o : Option ℤ) → number bs ≡ o → number_or_fault at o ≡ Ok kind → IsAtom kind bs
+number_is : (at : ℕ) (bs : List ℕ) (kind : Kind) (o : Option ℤ) → atom_number bs ≡ o → number_or_fault at o ≡ Ok kind → IsAtom kind bs
 number_is at bs kind None e h = absurd cc
 number_is at bs kind (Some z) e h = let p = number_spelled bs z e in ok_same (λ c. IsAtom c bs) (k.Num z) kind h (p.1, p.0, λ rest r. r)
 
 atom_by : (at b : ℕ) (bs : List ℕ) (kind : Kind) (q n l w : Bool) → (is_digit b || b == 45) ≡ q → is_name bs ≡ n → nat_le (length bs) name_most ≡ l → is_word bs ≡ w → atom_from b at bs ≡ Ok kind → IsAtom kind bs
 unfolding atom_from
-atom_by at b bs kind true n l w e f g d h = number_is at bs kind (number bs) refl (rw e at h)
+atom_by at b bs kind true n l w e f g d h = number_is at bs kind (atom_number bs) refl (rw e at h)
 atom_by at b bs kind false true true w e f g d h = ok_same (λ c. IsAtom c bs) (k.Name bs) kind (rw (e, f, g) at h) (refl, true_both (is_name bs) (nat_le (length bs) name_most) f g, λ rest r. r)
 atom_by at b bs kind false true false w e f g d h = absurd (let i = rw (e, f, g) at h in cc)
 atom_by at b bs kind false false l true e f g d h = ok_same (λ c. IsAtom c bs) (k.Word bs) kind (rw (e, f, d) at h) (refl, d, λ rest r. r)

@@ -39,9 +39,9 @@ unfoldable pub negative : List ℕ → Option ℤ
 negative bs = if is_plain_numeral bs then if_fits (neg_ℤ (pos (value bs))) else None
 
 -- the number that an atom is: 0, or digits of which the first isn't 0, with or without a minus before them, of 64 bits
-abbrev pub number : List ℕ → Option ℤ
-number [] = None
-number (b ∷ bs) = if b == 45 then negative bs else positive (b ∷ bs)
+abbrev pub atom_number : List ℕ → Option ℤ
+atom_number [] = None
+atom_number (b ∷ bs) = if b == 45 then negative bs else positive (b ∷ bs)
 
 -- lower-case letters, digits and `_`, a letter first
 abbrev pub is_name : List ℕ → Bool

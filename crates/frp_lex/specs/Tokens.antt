@@ -7,7 +7,7 @@ use Rattle.frp_lex.specs.declared.token.Kind.TheVariants as k
 use Rattle.frp_lex.specs.declared.token.Token.{Token}
 use Rattle.frp_lex.specs.Gives.{LexOutcome, ◌>>=◌, lex_fault}
 use Rattle.frp_lex.specs.Bytes.{is_blank, is_digit, is_in_atom, is_in_comment}
-use Rattle.frp_lex.specs.Atoms.{number, is_name, name_most, is_word}
+use Rattle.frp_lex.specs.Atoms.{atom_number, is_name, name_most, is_word}
 use Rattle.frp_lex.specs.Quoted.{closing_quote, first_bad, unescaped, text_most}
 
 -- What stands at the front of bytes: a token's kind, or none where it is a blank or a comment, and how many bytes it has.
@@ -23,7 +23,7 @@ number_or_fault at (Some z) = Ok (k.Num z)
 -- what an atom at this place is; the first argument is its first byte
 unfoldable pub atom_from : ℕ → ℕ → List ℕ → LexOutcome Kind
 atom_from b at bs =
-    if is_digit b || b == 45 then number_or_fault at (number bs)
+    if is_digit b || b == 45 then number_or_fault at (atom_number bs)
     else if is_name bs then (if nat_le (length bs) name_most then Ok (k.Name bs) else lex_fault at fault_kind.LongName)
     else if is_word bs then Ok (k.Word bs)
     else lex_fault at fault_kind.Name

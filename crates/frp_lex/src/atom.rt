@@ -8,7 +8,7 @@ ghost use Rattle.frp_lex.specs.Gives.{LexGives, lex_fault};
 
 use crate::bytes::{are_in_name, are_letters, is_digit, is_lower, is_upper};
 use crate::fault::{Lex, LexKind, LexStop};
-use crate::number::number;
+use crate::number::atom_number;
 use crate::token::Kind;
 use frp_base::{Memory, Text};
 use std::alloc::Global;
@@ -65,7 +65,7 @@ pub fn atom_of(alloc: Global, at: usize, bytes: &[u8]) -> Result<Kind, LexStop>
 {
     let b = bytes[0];
     if is_digit(b) || b == b'-' {
-        return match number(bytes) {
+        return match atom_number(bytes) {
             None => stop(at, LexKind::Number),
             Some(n) => Ok(Kind::Num(n)),
         };

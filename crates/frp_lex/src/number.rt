@@ -60,8 +60,8 @@ fn negative(bytes: &[u8]) -> Option<i64>
 }
 
 /// The number that an atom is, where it is one.
-pub fn number(bytes: &[u8]) -> Option<i64>
-    ensures { result ≡ spec.number bytes.now }
+pub fn atom_number(bytes: &[u8]) -> Option<i64>
+    ensures { result ≡ spec.atom_number bytes.now }
 {
     match bytes {
         [] => None,

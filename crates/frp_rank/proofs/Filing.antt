@@ -6,10 +6,11 @@ use Rattle.std.proofs.lemmas.Option.{get_or_from_slice_get, slice_get_within}
 use Rattle.std.proofs.lemmas.Grind.{common_steps}
 use Rattle.std.proofs.lemmas.Bool.{cases_eq}
 use Rattle.std.proofs.lemmas.Bool.Decides.{nat_tests}
+use Rattle.frp_base.proofs.Booleans.{bool_cases}
 use Rattle.frp_rank.specs.declared.edge.Edge.{Edge}
 use Rattle.frp_rank.specs.Chain.{Link, is_linked}
-use Rattle.frp_rank.proofs.Paths.{bool_cases}
 use Rattle.frp_rank.specs.Graph.{live_links, no_edge, edge_at, start_of, end_of, latest}
+use Rattle.frp_rank.proofs.Paths.{if_more}
 
 -- The last edge of a place, and the one before it.
 
@@ -48,15 +49,11 @@ read_edge edges i e h = get_or_from_slice_get edges i e no_edge h
 head_linked : (x : Edge) (ls : List Link) (a b : ℕ) → is_linked (cond x.live ((record { from = x.from; to = x.to }) ∷ ls) ls) a b ≡ cond (x.live && (eqb x.from a && eqb x.to b)) true (is_linked ls a b)
 head_linked x ls a b = elim (bool_cases x.live) [ inl t ↦ rw t refl | inr f ↦ rw f refl ]
 
-or_true : (b c : Bool) → c ≡ true → cond b true c ≡ true
-or_true true c h = refl
-or_true false c h = h
-
 -- a live edge is a link
 pub linked_edge : (edges : List Edge) (i : ℕ) → i < length edges → (edge_at edges i).live ≡ true → is_linked (live_links edges) (start_of edges i) (end_of edges i) ≡ true
 linked_edge [] i h l = absurd (omega arith)
 linked_edge (e ∷ es) zero h l = head_linked e (live_links es) e.from e.to ∙ grind (arith, nat_tests, l)
-linked_edge (e ∷ es) (suc i) h l = head_linked e (live_links es) (start_of es i) (end_of es i) ∙ or_true (e.live && (eqb e.from (start_of es i) && eqb e.to (end_of es i))) (is_linked (live_links es) (start_of es i) (end_of es i)) (linked_edge es i (omega arith) l)
+linked_edge (e ∷ es) (suc i) h l = head_linked e (live_links es) (start_of es i) (end_of es i) ∙ if_more (e.live && (eqb e.from (start_of es i) && eqb e.to (end_of es i))) (is_linked (live_links es) (start_of es i) (end_of es i)) (linked_edge es i (omega arith) l)
 
 -- A walk over the edges of one place, from the last to the first.
 

@@ -11,17 +11,12 @@ use Rattle.frp_rank.specs.declared.graph.Graph.{Graph}
 use Rattle.frp_rank.specs.Chain.{Link, is_linked, with_link, without_link}
 use Rattle.frp_rank.specs.Order.{Order, IsOrdered, LeadsLower, Raises}
 use Rattle.frp_rank.specs.declared.write.Write.{Write}
-use Rattle.frp_rank.specs.Plans.{Fits, written}
+use Rattle.frp_rank.specs.Plans.{FitsOrder, written}
 use Rattle.std.specs.Prelude.{IfSome, IfNone}
+use Rattle.frp_base.proofs.Booleans.{bool_cases, same_test}
 use Rattle.frp_rank.specs.Graph.{Net, net_of, base_of, live_links, no_edge, edge_at, start_of, end_of, latest, AreFiled, IsSound, IsKept, with_live, with_empty_place, Finds}
-use Rattle.frp_rank.proofs.Paths.{bool_cases, chainless}
+use Rattle.frp_rank.proofs.Paths.{chainless}
 use Rattle.frp_rank.proofs.Filing.{LiveEdge, edge_of_link, linked_edge, latest_le, latest_same}
-
--- two tests that follow from each other are one
-pub test_same : (b c : Bool) → (b ≡ true → c ≡ true) → (c ≡ true → b ≡ true) → b ≡ c
-test_same true c f g = sym (f refl)
-test_same false true f g = g refl
-test_same false false f g = refl
 
 -- What links and filing say of one another.
 
@@ -124,7 +119,7 @@ link_left linked from to a b h d = elim (cases_eq from a) [
 
 -- the links once an edge is one
 pub links_with : (es : List Edge) (i n : ℕ) → i < length es → AreFiled es n → (a b : ℕ) → is_linked (live_links (with_live es i true)) a b ≡ with_link (is_linked (live_links es)) (start_of es i) (end_of es i) a b
-links_with es i n inside f a b = test_same _ _ forth back where
+links_with es i n inside f a b = same_test _ _ forth back where
   forth : is_linked (live_links (with_live es i true)) a b ≡ true → with_link (is_linked (live_links es)) (start_of es i) (end_of es i) a b ≡ true
   forth h =
       let e : LiveEdge (with_live es i true) a b = edge_of_link (with_live es i true) a b h in
@@ -152,7 +147,7 @@ links_with es i n inside f a b = test_same _ _ forth back where
 
 -- the links once an edge is none
 pub links_without : (es : List Edge) (i n : ℕ) → i < length es → AreFiled es n → (a b : ℕ) → is_linked (live_links (with_live es i false)) a b ≡ without_link (is_linked (live_links es)) (start_of es i) (end_of es i) a b
-links_without es i n inside f a b = test_same _ _ forth back where
+links_without es i n inside f a b = same_test _ _ forth back where
   forth : is_linked (live_links (with_live es i false)) a b ≡ true → without_link (is_linked (live_links es)) (start_of es i) (end_of es i) a b ≡ true
   forth h =
       let e : LiveEdge (with_live es i false) a b = edge_of_link (with_live es i false) a b h in
@@ -363,7 +358,7 @@ place_sound n s few =
 -- New ranks.
 
 -- links that are the old ones and a new one, at ranks that fit it
-pub fits_raises : (old new : Order) (from to : ℕ) → Fits old from to new.ranks → IsOrdered new → ((a b : ℕ) → is_linked new.links a b ≡ with_link (is_linked old.links) from to a b) → Raises old new from to
+pub fits_raises : (old new : Order) (from to : ℕ) → FitsOrder old from to new.ranks → IsOrdered new → ((a b : ℕ) → is_linked new.links a b ≡ with_link (is_linked old.links) from to a b) → Raises old new from to
 fits_raises old new from to f o l = record {
   linked = l;
   ranks = f.ranks;
@@ -372,7 +367,7 @@ fits_raises old new from to f o l = record {
 }
 
 -- a link that leads lower fits the ranks as they are
-pub fits_now : (o : Order) (from to : ℕ) → IsOrdered o → get_or o.ranks to 0 < get_or o.ranks from 0 → Fits o from to o.ranks
+pub fits_now : (o : Order) (from to : ℕ) → IsOrdered o → get_or o.ranks to 0 < get_or o.ranks from 0 → FitsOrder o from to o.ranks
 fits_now o from to ord low = record {
   ranks = (o.ranks, record { by = 0; length_kept = refl; changed = λ p d. absurd (d refl); alike = λ p. inl refl; risen = λ p. omega arith }, record { low = λ e. refl; high = λ e. record { same_length = refl; below = λ p q a b l. l; equal = λ p q a b l. l } });
   lower = λ a b h. elim (link_cases (is_linked o.links) from to a b h) [
@@ -386,7 +381,7 @@ fits_now o from to ord low = record {
 -- a link that is there already changes nothing
 pub raises_again : (o : Order) (from to : ℕ) → IsOrdered o → is_linked o.links from to ≡ true → Raises o o from to
 raises_again o from to ord h =
-    let same : (a b : ℕ) → is_linked o.links a b ≡ with_link (is_linked o.links) from to a b = λ a b. test_same _ _ (link_more (is_linked o.links) from to a b) (λ k. elim (link_cases (is_linked o.links) from to a b k) [ inl (p, q) ↦ subst (λ x. is_linked o.links x b ≡ true) p (subst (λ x. is_linked o.links from x ≡ true) q h) | inr l ↦ l ]) in
+    let same : (a b : ℕ) → is_linked o.links a b ≡ with_link (is_linked o.links) from to a b = λ a b. same_test _ _ (link_more (is_linked o.links) from to a b) (λ k. elim (link_cases (is_linked o.links) from to a b k) [ inl (p, q) ↦ subst (λ x. is_linked o.links x b ≡ true) p (subst (λ x. is_linked o.links from x ≡ true) q h) | inr l ↦ l ]) in
     fits_raises o o from to (fits_now o from to ord (ord.lower from to h)) ord same
 
 -- What was found tells whether the link is there.
@@ -400,8 +395,8 @@ not_there es n from to None live filed f s h l = true≢false (sym l ∙ unfound
 not_there es n from to (Some i) live filed f s h l = true≢false (sym (alive es n from to i filed f l) ∙ sym s ∙ h)
 
 -- what is written fits as the plan does
-pub plan_fits : (ranks old new : List ℕ) (es fs : List Edge) (from to : ℕ) (items ws : List Write) → Fits (record { ranks = ranks; links = live_links fs }) from to (written ranks items)
-    → fs ≡ es → new ≡ written old ws → old ≡ ranks → ws ≡ items → Fits (record { ranks = ranks; links = live_links es }) from to new
+pub plan_fits : (ranks old new : List ℕ) (es fs : List Edge) (from to : ℕ) (items ws : List Write) → FitsOrder (record { ranks = ranks; links = live_links fs }) from to (written ranks items)
+    → fs ≡ es → new ≡ written old ws → old ≡ ranks → ws ≡ items → FitsOrder (record { ranks = ranks; links = live_links es }) from to new
 plan_fits ranks old new es fs from to items ws f e n o w =
-    subst (Fits (record { ranks = ranks; links = live_links es }) from to) (sym (n ∙ ap (λ l. written l ws) o ∙ ap (written ranks) w))
-    (subst (λ l. Fits (record { ranks = ranks; links = live_links l }) from to (written ranks items)) e f)
+    subst (FitsOrder (record { ranks = ranks; links = live_links es }) from to) (sym (n ∙ ap (λ l. written l ws) o ∙ ap (written ranks) w))
+    (subst (λ l. FitsOrder (record { ranks = ranks; links = live_links l }) from to (written ranks items)) e f)

@@ -10,7 +10,7 @@ use Rattle.std.proofs.Common.{append-nil, length-append}
 use Rattle.frp_rank.specs.Chain.{first_or, is_path, are_distinct, is_closed_chain, with_link}
 use Rattle.frp_rank.specs.Order.{LeadsLower}
 use Rattle.frp_rank.specs.Laws.{TurnedIsClosed}
-use Rattle.frp_rank.proofs.Paths.{both, path_falls, path_more, first_more}
+use Rattle.frp_rank.proofs.Paths.{path_falls, path_more, first_more, if_parts}
 
 -- how often a number stands in a list
 abbrev pub times : ℕ → List ℕ → ℕ
@@ -50,7 +50,7 @@ ring_turns linked x y xs ys h = path_join linked (y ∷ ys) (x ∷ xs) y ∙ fli
 lower_than : (linked : ℕ → ℕ → Bool) (rank : ℕ → ℕ) → LeadsLower linked rank → (ns : List ℕ) (end n : ℕ) → is_path linked ns end ≡ true → rank (first_or ns end) < rank n → times n ns ≡ 0
 lower_than linked rank low [] end n h l = refl
 lower_than linked rank low (k ∷ ks) end n h l =
-    let p : (linked k (first_or ks end) ≡ true) × (is_path linked ks end ≡ true) = both _ _ h in
+    let p : (linked k (first_or ks end) ≡ true) × (is_path linked ks end ≡ true) = if_parts _ _ h in
     let d : rank (first_or ks end) < rank k = low k (first_or ks end) p.0 in
     let r : times n ks ≡ 0 = lower_than linked rank low ks end n p.1 (omega arith) in
     elim (cases_eq k n) [ inl e ↦ let f : rank k ≡ rank n = ap rank e in absurd (omega arith) | inr e ↦ grind (arith, nat_tests) ]
@@ -58,7 +58,7 @@ lower_than linked rank low (k ∷ ks) end n h l =
 pub once_falling : (linked : ℕ → ℕ → Bool) (rank : ℕ → ℕ) → LeadsLower linked rank → (ns : List ℕ) (end : ℕ) → is_path linked ns end ≡ true → (n : ℕ) → times n (ns ++ end ∷ []) ≤ 1
 once_falling linked rank low [] end h n = grind (arith, nat_tests)
 once_falling linked rank low (k ∷ ks) end h n =
-    let p : (linked k (first_or ks end) ≡ true) × (is_path linked ks end ≡ true) = both _ _ h in
+    let p : (linked k (first_or ks end) ≡ true) × (is_path linked ks end ≡ true) = if_parts _ _ h in
     let d : rank (first_or ks end) < rank k = low k (first_or ks end) p.0 in
     let f : rank end ≤ rank (first_or ks end) = path_falls linked rank low ks end p.1 in
     let r : times n (ks ++ end ∷ []) ≤ 1 = once_falling linked rank low ks end p.1 n in
@@ -98,7 +98,7 @@ ring_closed linked x xs p once least =
 pub path_wider : (linked more : ℕ → ℕ → Bool) → ((a b : ℕ) → linked a b ≡ true → more a b ≡ true) → (ns : List ℕ) (end : ℕ) → is_path linked ns end ≡ true → is_path more ns end ≡ true
 path_wider linked more f [] end h = refl
 path_wider linked more f (n ∷ ns) end h =
-    let p : (linked n (first_or ns end) ≡ true) × (is_path linked ns end ≡ true) = both _ _ h in
+    let p : (linked n (first_or ns end) ≡ true) × (is_path linked ns end ≡ true) = if_parts _ _ h in
     ap (λ b. cond b (is_path more ns end) false) (f n (first_or ns end) p.0) ∙ path_wider linked more f ns end p.1
 
 turned : (linked : ℕ → ℕ → Bool) (xs ys : List ℕ) (to : ℕ) → is_path linked (xs ++ ys) to ≡ true → first_or (xs ++ ys) to ≡ to → ((n : ℕ) → times n (xs ++ ys) ≤ 1)

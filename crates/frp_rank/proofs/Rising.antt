@@ -4,6 +4,7 @@ use mathlib.Core.Bool.{true≢false}
 use Rattle.std.proofs.lemmas.List.{get_or_past}
 use Rattle.std.proofs.lemmas.Bool.{cases_lt, cases_eq}
 use Rattle.std.proofs.lemmas.Bool.Decides.{nat_tests}
+use Rattle.frp_base.proofs.Booleans.{bool_cases}
 use Rattle.frp_rank.specs.declared.visit.Visit.{Visit}
 use Rattle.frp_rank.specs.declared.write.Write.{Write}
 use Rattle.frp_rank.specs.declared.search.Search.{Search}
@@ -12,8 +13,7 @@ use Rattle.frp_rank.specs.Order.{Order, LeadsLower, RaisesAbove, KeepsOrder, Ren
 use Rattle.frp_rank.specs.Laws.{LiftKeepsLower, lifted, lower_count, renumbered}
 use Rattle.frp_rank.specs.Graph.{live_links, edge_at, start_of, end_of}
 use Rattle.frp_rank.specs.Search.{has_visit, visit_at, IsSearchable, IsSearch, LeadsOn, is_close, AreAllMet, searched}
-use Rattle.frp_rank.specs.Plans.{written, risen_writes, lower_writes, has_high_write, Fits, AreInside}
-use Rattle.frp_rank.proofs.Paths.{bool_cases}
+use Rattle.frp_rank.specs.Plans.{written, risen_writes, lower_writes, has_high_write, FitsOrder, AreInside}
 use Rattle.frp_rank.proofs.Filing.{LiveEdge, edge_of_link}
 use Rattle.frp_rank.proofs.Visiting.{visit_of}
 use Rattle.frp_rank.proofs.Writing.{written_length, risen_at, risen_high, risen_low, high_at, written_anew}
@@ -97,7 +97,7 @@ module _ (s : Search) (slots : List ℕ) (visits : List Visit) (to : ℕ) (able 
   }
 
   -- no rank reached the limit
-  pub fits_low : has_high_write (risen_writes ranks s.by visits) ≡ false → Fits (searched s) s.from to risen
+  pub fits_low : has_high_write (risen_writes ranks s.by visits) ≡ false → FitsOrder (searched s) s.from to risen
   fits_low h = record {
     ranks = (risen, raises, record { low = λ e. refl; high = λ e. record { same_length = refl; below = λ p q a b l. l; equal = λ p q a b l. l } });
     lower = lower;
@@ -120,7 +120,7 @@ module _ (s : Search) (slots : List ℕ) (visits : List Visit) (to : ℕ) (able 
   ]
 
   -- a rank reached the limit, and all are renumbered
-  pub fits_high : has_high_write (risen_writes ranks s.by visits) ≡ true → Fits (searched s) s.from to (renumbered risen)
+  pub fits_high : has_high_write (risen_writes ranks s.by visits) ≡ true → FitsOrder (searched s) s.from to (renumbered risen)
   fits_high h =
       let length_risen : length risen ≡ length ranks = written_length ranks (risen_writes ranks s.by visits) in
       let keeps : KeepsOrder risen (renumbered risen) = renumbered_keeps risen in

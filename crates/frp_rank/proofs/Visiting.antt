@@ -9,13 +9,13 @@ use Rattle.std.proofs.lemmas.Map.Steps.{length-le_from_distinct_below}
 use Rattle.std.proofs.lemmas.Grind.{common_steps}
 use Rattle.std.proofs.lemmas.Bool.{cases_eq, cases_lt}
 use Rattle.std.proofs.lemmas.Bool.Decides.{nat_tests}
+use Rattle.frp_base.proofs.Booleans.{bool_cases}
 use Rattle.frp_rank.specs.declared.visit.Visit.{Visit}
 use Rattle.frp_rank.specs.declared.edge.Edge.{Edge}
 use Rattle.frp_rank.specs.declared.search.Search.{Search}
 use Rattle.frp_rank.specs.Chain.{Link, is_linked}
 use Rattle.frp_rank.specs.Graph.{live_links}
 use Rattle.frp_rank.specs.Search.{has_visit, visit_at, no_visit, IsSearch, LeadsOn, Grows, is_close}
-use Rattle.frp_rank.proofs.Paths.{bool_cases}
 
 -- the visit of a number
 pub visited_at : (visits : List Visit) (j : ℕ) → j < length visits → has_visit visits (visit_at visits j).place ≡ true

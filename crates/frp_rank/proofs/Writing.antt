@@ -8,13 +8,13 @@ use Rattle.std.proofs.lemmas.List.Folds.{list_any_at}
 use Rattle.std.proofs.lemmas.Grind.{common_steps}
 use Rattle.std.proofs.lemmas.Bool.{cases_eq, cases_lt}
 use Rattle.std.proofs.lemmas.Bool.Decides.{nat_tests}
+use Rattle.frp_base.proofs.Booleans.{bool_cases}
 use Rattle.frp_rank.specs.declared.visit.Visit.{Visit}
 use Rattle.frp_rank.specs.declared.write.Write.{Write}
 use Rattle.frp_rank.specs.Order.{has_high}
 use Rattle.frp_rank.specs.Laws.{lower_count, lifted, renumbered}
 use Rattle.frp_rank.specs.Search.{has_visit, visit_at, no_visit}
 use Rattle.frp_rank.specs.Plans.{written, map_index, risen_writes, lower_writes, has_high_write, AreInside}
-use Rattle.frp_rank.proofs.Paths.{bool_cases}
 
 pub map_index_step : (f : ℕ → ℕ → Write) (i : ℕ) (rs : List ℕ) (d : ℕ) → i < length rs → map_index f i (drop i rs) ≡ f i (get_or rs i d) ∷ map_index f (i + 1) (drop (i + 1) rs)
 map_index_step f i rs d h = let e : suc i ≡ i + 1 = omega arith in ap (map_index f i) (drop-cons rs i d h) ∙ ap (λ n. f i (get_or rs i d) ∷ map_index f (i + 1) (drop n rs)) e

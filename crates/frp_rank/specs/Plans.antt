@@ -19,7 +19,7 @@ abbrev pub AreInside : List Write → ℕ → Type 0
 AreInside writes places = All (λ (w : Write). w.place < places) writes
 
 -- with these ranks all links lead lower, the new one too
-pub record Fits (old : Order) (from to : ℕ) (new : List ℕ) : Type 0 where
+pub record FitsOrder (old : Order) (from to : ℕ) (new : List ℕ) : Type 0 where
   pub ranks : (raised : List ℕ) × RaisesAbove old from raised × RenumbersAt raised new
   pub lower : LeadsLower (with_link (is_linked old.links) from to) (λ p. slice_index new p)
   pub small : (p : ℕ) → slice_index new p < 2 ^ 32
@@ -28,7 +28,7 @@ pub record Fits (old : Order) (from to : ℕ) (new : List ℕ) : Type 0 where
 -- a plan names the chain that the link closes, or writes ranks that fit
 abbrev pub IsPlan : Order → ℕ → ℕ → Plan → Type 0
 IsPlan old from to (Closed chain) = is_closed_chain (with_link (is_linked old.links) from to) (numbers chain) ≡ true
-IsPlan old from to (Open writes) = AreInside writes.items (length old.ranks) × Fits old from to (written old.ranks writes.items)
+IsPlan old from to (Open writes) = AreInside writes.items (length old.ranks) × FitsOrder old from to (written old.ranks writes.items)
 
 -- the new rank of each visited place
 abbrev pub risen_writes : List ℕ → ℕ → List Visit → List Write

@@ -7,8 +7,8 @@ abbrev pub chunk_size : ℕ
 chunk_size = 64
 
 -- the items of the chunks, joined
-abbrev pub joined : {T : Type 0} → List (List T) → List T
-joined = flat_map (λ chunk. chunk)
+abbrev pub chunk_items : {T : Type 0} → List (List T) → List T
+chunk_items = flat_map (λ chunk. chunk)
 
 -- these chunks hold this many items, and only full ones stand before one that is not
 abbrev pub ArePacked : {T : Type 0} → List (List T) → ℕ → Type 0

@@ -24,14 +24,14 @@ pub struct Region<T> {
 
 impl<T> Model for Region<T> {
     ghost use Rattle.std.specs.Prelude.{◌-◌, ◌*◌, ◌<◌, ◌^◌, length};
-    ghost use Rattle.frp_region.specs.Chunks.{ArePacked, chunk_size, joined};
+    ghost use Rattle.frp_region.specs.Chunks.{ArePacked, chunk_size, chunk_items};
     ghost use Rattle.frp_region.specs.Content.{Content, content_code};
 
     ghost Value = { Content T };
 
     ghost coded = { content_code T.code };
 
-    ghost view = { λ r. record { items = joined r.chunks.items; spare = chunk_size * length r.chunks.items - r.count } };
+    ghost view = { λ r. record { items = chunk_items r.chunks.items; spare = chunk_size * length r.chunks.items - r.count } };
 
     ghost invariant = { λ r. ArePacked r.chunks.items r.count × (length r.chunks.items < 2 ^ 57) };
 }

@@ -73,14 +73,14 @@ reply_text (Left items) = codes "gave " ++ decimal (length items)
 abbrev pub item_line : Delivered → List ℕ
 item_line d = codes "  " ++ time_text d.time ++ codes " " ++ val_text d.value ++ codes "\n"
 
-abbrev pub item_lines : List Delivered → List ℕ
-item_lines [] = []
-item_lines (d ∷ ds) = item_line d ++ item_lines ds
+abbrev pub delivered_lines : List Delivered → List ℕ
+delivered_lines [] = []
+delivered_lines (d ∷ ds) = item_line d ++ delivered_lines ds
 
 -- the lines below an entry: the items that a listener was given
 abbrev pub given_lines : Reply → List ℕ
-given_lines (Given items) = item_lines items
-given_lines (Left items) = item_lines items
+given_lines (Given items) = delivered_lines items
+given_lines (Left items) = delivered_lines items
 given_lines (Accepted moments) = []
 given_lines (Refused refusal) = []
 given_lines (Joined key) = []

@@ -1,6 +1,6 @@
 ghost use Rattle.std.specs.Prelude.{◌≡◌, ◌++◌, IfOk, OnOk};
 ghost use Rattle.std.specs.Fmt.{decimal};
-ghost use Rattle.frp_report.specs.Report.{report_text, entry_lines, entry_line, cmd_text, reply_text, sent_lines, sent_line, send_lines, refusal_text, chain_text, phase_text, names_text, given_lines, item_lines, item_line, moment_lines, moment_line, born_lines, born_line, shape_text, first_text, fact_lines, fact_line, end_line};
+ghost use Rattle.frp_report.specs.Report.{report_text, entry_lines, entry_line, cmd_text, reply_text, sent_lines, sent_line, send_lines, refusal_text, chain_text, phase_text, names_text, given_lines, delivered_lines, item_line, moment_lines, moment_line, born_lines, born_line, shape_text, first_text, fact_lines, fact_line, end_line};
 
 use frp_base::{Memory, Name, Text, Val};
 use frp_graph::{Fact, Moment, Node, Phase, Shape, Why};
@@ -204,7 +204,7 @@ fn show_given(alloc: Global, reply: &Reply, out: &mut Text) -> Result<(), Memory
 
 /// Appends the lines of items that a listener was given.
 fn show_items(alloc: Global, items: &[Delivered], out: &mut Text) -> Result<(), Memory>
-    ensures { OnOk result (out.new ≡ out.old ++ item_lines items.now) }
+    ensures { OnOk result (out.new ≡ out.old ++ delivered_lines items.now) }
 {
     for item in items {
         show_item(alloc, item, out)?;

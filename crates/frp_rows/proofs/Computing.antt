@@ -16,7 +16,7 @@ use Rattle.frp_base.specs.declared.val.Val.TheOpen as o
 use Rattle.frp_base.specs.declared.val.Val.TheVariants as v
 use Rattle.frp_base.specs.declared.val.Val.TheFolds.{fold-roll-Val, map-Val}
 use Rattle.frp_base.specs.Ty.{ty_eq}
-use Rattle.frp_base.proofs.TyLemmas.{ty_decides}
+use Rattle.frp_base.proofs.TyLemmas.{ty_decides, out_stream, out_cell, ty_eq-same}
 use Rattle.frp_expr.specs.declared.expr.Expr.{Expr, roll-Expr}
 use Rattle.frp_expr.specs.declared.expr.Expr.TheOpen.{Expr-F}
 use Rattle.frp_expr.specs.declared.expr.Expr.TheOpen as e
@@ -44,20 +44,11 @@ out-ty-list a = ty_out (t.List a) (u.List a) (t.rolls-List a)
 pub out-ty-pair : (a b : Ty) → out-Ty (t.Pair a b) ≡ u.Pair a b
 out-ty-pair a b = ty_out (t.Pair a b) (u.Pair a b) (t.rolls-Pair a b)
 
-pub out-ty-stream : (a : Ty) → out-Ty (t.Stream a) ≡ u.Stream a
-out-ty-stream a = ty_out (t.Stream a) (u.Stream a) (t.rolls-Stream a)
-
-pub out-ty-cell : (a : Ty) → out-Ty (t.Cell a) ≡ u.Cell a
-out-ty-cell a = ty_out (t.Cell a) (u.Cell a) (t.rolls-Cell a)
-
 pub out-ty-fun : (a b : Ty) → out-Ty (t.Fun a b) ≡ u.Fun a b
 out-ty-fun a b = ty_out (t.Fun a b) (u.Fun a b) (t.rolls-Fun a b)
 
 pub out-ty-option : (a : Ty) → out-Ty (t.Option a) ≡ u.Option a
 out-ty-option a = ty_out (t.Option a) (u.Option a) (t.rolls-Option a)
-
-pub ty_eq-same : (x : Ty) → ty_eq x x ≡ true
-ty_eq-same x = (ty_decides x x).1 refl
 
 val_out : (x : Val) (l : Val-F Val) → roll-Val l ≡ x → out-Val x ≡ l
 val_out x l e = ap out-Val (sym e) ∙ out-roll-Val l
@@ -265,8 +256,8 @@ pub ruleset computing = (
   out-ty-int,
   out-ty-list,
   out-ty-pair,
-  out-ty-stream,
-  out-ty-cell,
+  out_stream,
+  out_cell,
   out-ty-fun,
   out-ty-option,
   ty_eq-same,

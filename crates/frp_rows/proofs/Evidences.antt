@@ -21,7 +21,7 @@ use Rattle.frp_graph.specs.Trace.{Sight, Each, node_in, sight_of, live}
 use Rattle.frp_graph.specs.Equations.{MeetsEquation}
 use Rattle.frp_graph.specs.Births.{build, file_plans, plan_as}
 use Rattle.frp_graph.specs.FirstValues.{IsMadeAs, are_all_born}
-use Rattle.frp_graph.specs.Moments.{AtEach, is_due, is_of}
+use Rattle.frp_graph.specs.Moments.{AtEach, is_due, is_of_transaction}
 use Rattle.frp_graph.specs.Links.{links, are_distinct}
 use Rattle.frp_graph.specs.Evidence.{IsTrueEvidence, MeetsRules, IsReached, AreRanked, IsSettled, AreWhole, AreAllBelow, rank_in, can_make, is_whole, is_of_whole, has_reads}
 use Rattle.frp_rows.proofs.Traces.{is_rising, rises, covers, are_due, due_until, Shown, moment_rises, moments, are_sound, sound, within, each_in, each_true, all_true, asked, at_build}
@@ -31,7 +31,7 @@ pub reached : (prog : Prog) (limits : Limits) (sends : List Sent) (k : ℕ) (pas
     → is_rising time_cmp (map (λ m. m.time) past) && list_all moment_rises past ≡ true
     → covers (λ t. is_lt (time_cmp t last.time)) sends past ≡ true → are_due (λ t. is_lt (time_cmp t last.time)) sends past ≡ true
     → AtEach (Shown prog sends) [] past → are_sound prog rank [] past ≡ true → length past ≤ limits.moments → length (live past) ≤ limits.nodes
-    → is_due sends past last.time ≡ true → list_all (λ m. is_of k m.time) (done ++ last ∷ []) ≡ true → length done < limits.moments
+    → is_due sends past last.time ≡ true → list_all (λ m. is_of_transaction k m.time) (done ++ last ∷ []) ≡ true → length done < limits.moments
     → IsReached prog limits sends k past done last
 reached prog limits sends k past done last rank r c d h s m n l o f =
     let two = both_true (is_rising time_cmp (map (λ (m : Moment). m.time) past)) (list_all moment_rises past) r in

@@ -14,7 +14,7 @@ use Rattle.frp_base.specs.declared.name.Name.{Name}
 use Rattle.frp_base.specs.declared.val.Val.{Val}
 use Rattle.frp_base.specs.Time.{time_eq, time_cmp, parent_and_number}
 use Rattle.frp_base.specs.Name.{name_eq, name_cmp}
-use Rattle.frp_base.proofs.Booleans.{both_true}
+use Rattle.frp_base.proofs.Booleans.{both_true, either_true, same_test, chosen, and_true, or_more}
 use Rattle.frp_expr.specs.declared.expr.Expr.{Expr}
 use Rattle.frp_graph.specs.declared.prog.Line3.{Line3}
 use Rattle.frp_graph.specs.declared.trace.Node.{Node}
@@ -38,15 +38,17 @@ use Rattle.frp_graph.specs.Births.{build, file_plans, plans_by, plan_as}
 use Rattle.frp_graph.specs.FirstValues.{IsBornAs, are_all_born}
 use Rattle.frp_graph.specs.WellFormed.{has_typed_first, is_typed_fact, seen_fits, fits_cell, Allows, IsWellFormed, HasFirsts}
 use Rattle.frp_graph.specs.Sound.{IsSoundAfter, KeepsLimits}
-use Rattle.frp_graph.specs.Moments.{AtEach, IsMoment, IsTrace, items_to_split, live_at, is_due, is_child_due, splits_at, is_of, moments_of}
+use Rattle.frp_graph.specs.Moments.{AtEach, IsMoment, IsTrace, items_to_split, live_at, is_due, is_child_due, splits_at, is_of_transaction, moments_of}
 use Rattle.frp_graph.specs.Links.{links, links_from, is_linked, is_closed_chain, IsChainless}
 use Rattle.frp_history.specs.History.{entry_at}
 use Rattle.frp_history.specs.Sessions.{calls, calls_of, keys_of, IsSession}
 use Rattle.frp_history.specs.Listeners.{Listener, key_eq, is_leave, joined_by, joined_in, IsFreeSlot}
 use Rattle.frp_rows.specs.Writing.{program}
 use Rattle.frp_graph.proofs.Times.{child_is}
-use Rattle.frp_graph.proofs.Lists.{either_true, same_test, chosen, any_of, name_same, time_same, node_found, moment_found}
+use Rattle.frp_graph.proofs.Lists.{any_of, name_same, time_same, node_found, moment_found}
 use Rattle.frp_graph.proofs.Chains.{no_chain}
+use Rattle.frp_graph.proofs.Nodes.{found_named}
+use Rattle.frp_graph.proofs.Order.{lt_less}
 
 -- Nodes, by name.
 
@@ -58,14 +60,6 @@ each_in P (y ∷ ys) h n x e = elim (chosen (name_eq y.name n) y x (node_in ys n
 -- the same where a test tells it
 pub each_true : (q : Node → Bool) (xs : List Node) → list_all q xs ≡ true → (n : Name) (x : Node) → node_in xs n ≡ Some x → q x ≡ true
 each_true q xs h n x e = (node_found q xs n x e h).1
-
-pub each_named : (xs : List Node) (n : Name) (x : Node) → node_in xs n ≡ Some x → x.name ≡ n
-each_named [] n x e = absurd cc
-each_named (y ∷ ys) n x e =
-    elim (chosen (name_eq y.name n) y x (node_in ys n) e) [
-      | inl c ↦ subst (λ (z : Node). z.name ≡ n) c.1 (name_same y.name n c.0)
-      | inr r ↦ each_named ys n x r.1
-    ]
 
 -- what is found among the facts has one of their names
 pub fact_true : (q : Name → Bool) (fs : List Fact) → list_all (λ f. q f.node) fs ≡ true → (n : Name) (v : Val) → fact_in fs n ≡ Some v → q n ≡ true
@@ -95,14 +89,9 @@ abbrev pub is_rising : {K : Type 0} → (K → K → Ordering) → List K → Bo
 is_rising c [] = true
 is_rising c (x ∷ xs) = list_all (λ y. is_lt (c x y)) xs && is_rising c xs
 
-less : (o : Ordering) → is_lt o ≡ true → o ≡ Less
-less Less h = refl
-less Equal h = absurd cc
-less Greater h = absurd cc
-
 all_less : {K : Type 0} (c : K → K → Ordering) (x : K) (xs : List K) → list_all (λ y. is_lt (c x y)) xs ≡ true → AllByRecursion (λ y. c x y ≡ Less) xs
 all_less c x [] h = tt
-all_less c x (y ∷ ys) h = (less _ (both_true _ _ h).0, all_less c x ys (both_true _ _ h).1)
+all_less c x (y ∷ ys) h = (lt_less _ (both_true _ _ h).0, all_less c x ys (both_true _ _ h).1)
 
 pub rises : {K : Type 0} (c : K → K → Ordering) (xs : List K) → is_rising c xs ≡ true → IsStrictlySortedBy c xs
 unfolding IsStrictlySortedBy
@@ -187,10 +176,6 @@ module _ (until : Time → Bool) (sends : List Sent) (trace : List Moment) where
 
 abbrev pub always : Time → Bool
 always t = true
-
-and_true : (b : Bool) → b && true ≡ b
-and_true true = refl
-and_true false = refl
 
 -- the moments are those that are due
 pub due : (sends : List Sent) (trace : List Moment) → covers always sends trace ≡ true → are_due always sends trace ≡ true → (t : Time) → is_some (moment_at trace t) ≡ is_due sends trace t
@@ -303,7 +288,7 @@ sound prog rank past (m ∷ ms) h =
 
 -- no transaction has more moments than the trace
 few_moments : (trace : List Moment) (k : ℕ) → moments_of k trace ≤ length trace
-few_moments trace k = omega (arith, length-filter_both (λ m. is_of k m.time) (λ m. not (is_of k m.time)) (λ x. refl) trace)
+few_moments trace k = omega (arith, length-filter_both (λ m. is_of_transaction k m.time) (λ m. not (is_of_transaction k m.time)) (λ x. refl) trace)
 
 pub within : (limits : Limits) (trace : List Moment) → length trace ≤ limits.moments → length (live trace) ≤ limits.nodes → KeepsLimits limits trace
 within limits trace m n = record { moments = λ k. omega (arith, few_moments trace k); nodes = n }
@@ -316,27 +301,27 @@ first_number (n ∷ t) = n
 abbrev pub few_each : ℕ → List Moment → Bool
 few_each limit trace = list_all (λ m. nat_le (moments_of (first_number m.time) trace) limit) trace
 
-of_first : (k : ℕ) (t : Time) → is_of k t ≡ true → first_number t ≡ k
+of_first : (k : ℕ) (t : Time) → is_of_transaction k t ≡ true → first_number t ≡ k
 of_first k [] h = absurd cc
 of_first k (n ∷ t) h = grind (arith, nat_tests)
 
-none_of : (k : ℕ) (ms : List Moment) → list_any (λ m. is_of k m.time) ms ≡ false → filter (λ m. is_of k m.time) ms ≡ []
+none_of : (k : ℕ) (ms : List Moment) → list_any (λ m. is_of_transaction k m.time) ms ≡ false → filter (λ m. is_of_transaction k m.time) ms ≡ []
 none_of k [] h = refl
-none_of k (m ∷ ms) h = by (is_of k m.time) h (none_of k ms) where
-  by : (b : Bool) → b || list_any (λ m. is_of k m.time) ms ≡ false → (list_any (λ m. is_of k m.time) ms ≡ false → filter (λ m. is_of k m.time) ms ≡ [])
-      → cond b (m ∷ filter (λ m. is_of k m.time) ms) (filter (λ m. is_of k m.time) ms) ≡ []
+none_of k (m ∷ ms) h = by (is_of_transaction k m.time) h (none_of k ms) where
+  by : (b : Bool) → b || list_any (λ m. is_of_transaction k m.time) ms ≡ false → (list_any (λ m. is_of_transaction k m.time) ms ≡ false → filter (λ m. is_of_transaction k m.time) ms ≡ [])
+      → cond b (m ∷ filter (λ m. is_of_transaction k m.time) ms) (filter (λ m. is_of_transaction k m.time) ms) ≡ []
   by true h f = absurd cc
   by false h f = f h
 
-few_of : (limit : ℕ) (trace : List Moment) → few_each limit trace ≡ true → (k : ℕ) (b : Bool) → list_any (λ m. is_of k m.time) trace ≡ b → moments_of k trace ≤ limit
+few_of : (limit : ℕ) (trace : List Moment) → few_each limit trace ≡ true → (k : ℕ) (b : Bool) → list_any (λ m. is_of_transaction k m.time) trace ≡ b → moments_of k trace ≤ limit
 few_of limit trace h k true e =
-    let m = any_of (λ m. is_of k m.time) (λ m. nat_le (moments_of (first_number m.time) trace) limit) trace e h in
+    let m = any_of (λ m. is_of_transaction k m.time) (λ m. nat_le (moments_of (first_number m.time) trace) limit) trace e h in
     let f = subst (λ j. nat_le (moments_of j trace) limit ≡ true) (of_first k m.0.time m.1.0) m.1.1 in
     grind (arith, nat_tests)
 few_of limit trace h k false e = let z : moments_of k trace ≡ 0 = ap length (none_of k trace e) in omega arith
 
 pub within_each : (limits : Limits) (trace : List Moment) → few_each limits.moments trace ≡ true → length (live trace) ≤ limits.nodes → KeepsLimits limits trace
-within_each limits trace m n = record { moments = λ k. few_of limits.moments trace m k (list_any (λ m. is_of k m.time) trace) refl; nodes = n }
+within_each limits trace m n = record { moments = λ k. few_of limits.moments trace m k (list_any (λ m. is_of_transaction k m.time) trace) refl; nodes = n }
 
 -- Slots.
 
@@ -351,14 +336,10 @@ slot_given key caller (Join node) (Joined given) h = by (key_eq given key) h ref
   by false h e = absurd cc
 slot_given key caller _ _ h = absurd cc
 
-any_more : (a b : Bool) → b ≡ true → a || b ≡ true
-any_more true b h = refl
-any_more false b h = h
-
 joined_slot : (key : Key) (entries : List Entry) (k : ℕ) → is_some (joined_in key (slice_get entries k)) ≡ true → list_any (λ e. gives_slot key.slot e.reply) entries ≡ true
 joined_slot key [] k h = absurd (let e : slice_get {X = Entry} [] k ≡ None = search rules in cc)
 joined_slot key (e ∷ es) zero h = rw (slot_given key e.caller e.cmd e.reply h) refl
-joined_slot key (e ∷ es) (suc k) h = any_more (gives_slot key.slot e.reply) _ (joined_slot key es k h)
+joined_slot key (e ∷ es) (suc k) h = or_more (gives_slot key.slot e.reply) _ (joined_slot key es k h)
 
 held_joined : (entries : List Entry) (key : Key) (b : Bool) → is_some (if b then None else joined_in key (entry_at entries key.place)) ≡ true → is_some (joined_in key (entry_at entries key.place)) ≡ true
 held_joined entries key true h = absurd cc
@@ -400,7 +381,7 @@ well_formed prog past m p s f l =
     record {
       program = p;
       shapes = each_in (λ x. Allows prog w x.ty x.shape) nodes s;
-      named = each_named nodes;
+      named = found_named nodes;
       firsts = λ n x e. (both_true (first x) (before x && (now x && above x)) (one n x e)).0;
       befores = λ n x e. (both_true (before x) (now x && above x) (both_true (first x) (before x && (now x && above x)) (one n x e)).1).0;
       occurrences = λ n x e. (both_true (now x) (above x) (both_true (before x) (now x && above x) (both_true (first x) (before x && (now x && above x)) (one n x e)).1).1).0;

@@ -12,19 +12,19 @@ use Rattle.frp_graph.specs.declared.trace.Moment.{Moment}
 use Rattle.frp_history.specs.declared.history.Cmd.{Cmd}
 use Rattle.frp_history.specs.declared.history.Entry.{Entry}
 use Rattle.frp_history.specs.declared.history.Reply.TheVariants.{Accepted}
-use Rattle.frp_rows.specs.Writing.{item, num, lit, program, code, lam, stream, fires, moment, listens, send, sends, leaves, gave}
+use Rattle.frp_rows.specs.Writing.{item, num, lit, program, line_code, lam, stream_node, fires, moment, listens, send, sends, leaves, gave}
 
 abbrev pub prog : Prog
 prog = program (ex.Add (ex.Var 0) (lit 1) ∷ [])
     (line.Node (t.Stream t.Int) l.Sink
-    ∷ line.Node (t.Stream t.Int) (l.Map (code 0 []) (ex.Var 0))
+    ∷ line.Node (t.Stream t.Int) (l.Map (line_code 0 []) (ex.Var 0))
     ∷ [])
 
 abbrev pub trace : List Moment
 trace = record {
   time = 0 ∷ [];
-  born = stream 0 t.Int s.Sink
-      ∷ stream 1 t.Int (s.Map (lam 0 []) (item 0))
+  born = stream_node 0 t.Int s.Sink
+      ∷ stream_node 1 t.Int (s.Map (lam 0 []) (item 0))
       ∷ [];
   fired = [];
 }

@@ -8,7 +8,7 @@ use Rattle.frp_graph.specs.declared.prog.Line3.TheVariants as line
 use Rattle.frp_graph.specs.declared.prog.LineShape.TheVariants as l
 use Rattle.frp_graph.specs.declared.shape.Shape.TheVariants as s
 use Rattle.frp_graph.specs.declared.trace.Moment.{Moment}
-use Rattle.frp_rows.specs.Writing.{item, cell_of, program, stream, cell}
+use Rattle.frp_rows.specs.Writing.{item, cell_val, program, stream_node, cell_node}
 use Rattle.frp_graph.specs.declared.evidence.Evidence.{Evidence}
 use Rattle.frp_graph.specs.declared.evidence.Phase.TheVariants.{Birth}
 use Rattle.frp_graph.specs.declared.evidence.Why.TheVariants.{Chain}
@@ -32,9 +32,9 @@ missing k shape = record { name = item k; shape = shape; ty = t.Cell t.Int; firs
 abbrev pub last : Moment
 last = record {
   time = 0 ∷ [];
-  born = stream 0 t.Int s.Sink
+  born = stream_node 0 t.Int s.Sink
       ∷ missing 1 (s.Loop (item 3))
-      ∷ cell 2 (t.Cell t.Int) s.Constant (cell_of 1)
+      ∷ cell_node 2 (t.Cell t.Int) s.Constant (cell_val 1)
       ∷ missing 3 (s.Switchc (item 2))
       ∷ [];
   fired = [];

@@ -15,7 +15,7 @@ use Rattle.frp_graph.specs.declared.evidence.Evidence.{Evidence}
 use Rattle.frp_graph.specs.declared.evidence.Why.TheVariants.{Endless}
 use Rattle.frp_graph.specs.declared.limits.Limits.{Limits}
 use Rattle.frp_history.specs.declared.history.Entry.{Entry}
-use Rattle.frp_rows.specs.Writing.{item, num, lit, program, stream, cell, fires, moment, ranked, usual, listens, leaves, gave}
+use Rattle.frp_rows.specs.Writing.{item, num, lit, program, stream_node, cell_node, fires, moment, ranked, usual, listens, leaves, gave}
 
 abbrev pub prog : Prog
 prog = program []
@@ -31,10 +31,10 @@ both = v.List (num 7 ∷ num 8 ∷ [])
 abbrev pub first : Moment
 first = record {
   time = 0 ∷ [];
-  born = cell 0 (t.List t.Int) s.Constant both
-      ∷ stream 1 (t.List t.Int) (s.Value (item 0))
-      ∷ stream 2 t.Int (s.Split (item 1))
-      ∷ cell 3 t.Int (s.Hold (item 2)) (num 0)
+  born = cell_node 0 (t.List t.Int) s.Constant both
+      ∷ stream_node 1 (t.List t.Int) (s.Value (item 0))
+      ∷ stream_node 2 t.Int (s.Split (item 1))
+      ∷ cell_node 3 t.Int (s.Hold (item 2)) (num 0)
       ∷ [];
   fired = fires 1 both ∷ [];
 }

@@ -14,7 +14,7 @@ use Rattle.frp_graph.specs.declared.trace.Moment.{Moment}
 use Rattle.frp_history.specs.declared.history.Cmd.{Cmd}
 use Rattle.frp_history.specs.declared.history.Entry.{Entry}
 use Rattle.frp_history.specs.declared.history.Reply.TheVariants.{Accepted}
-use Rattle.frp_rows.specs.Writing.{item, num, lit, program, code, lam, stream, cell, fires, moment, send, sends}
+use Rattle.frp_rows.specs.Writing.{item, num, lit, program, line_code, lam, stream_node, cell_node, fires, moment, send, sends}
 use Rattle.frp_graph.specs.declared.evidence.Evidence.{Evidence}
 use Rattle.frp_graph.specs.declared.evidence.Why.TheVariants.{Endless}
 use Rattle.frp_history.specs.declared.history.Reply.TheVariants.{Refused}
@@ -28,9 +28,9 @@ abbrev pub prog : Prog
 prog = program (ex.Var 0 ∷ ex.Lt (lit 0) (ex.Var 0) ∷ ex.List (ex.Sub (ex.Var 0) (lit 1) ∷ []) ∷ [])
     (line.Node (t.Stream t.Int) l.Sink
     ∷ line.Node (t.Stream t.Int) (l.Loop 5)
-    ∷ line.Node (t.Stream t.Int) (l.Merge (code 0 []) (ex.Var 0) (ex.Var 1))
-    ∷ line.Node (t.Stream t.Int) (l.Filter (code 1 []) (ex.Var 2))
-    ∷ line.Node (t.Stream (t.List t.Int)) (l.Map (code 2 []) (ex.Var 3))
+    ∷ line.Node (t.Stream t.Int) (l.Merge (line_code 0 []) (ex.Var 0) (ex.Var 1))
+    ∷ line.Node (t.Stream t.Int) (l.Filter (line_code 1 []) (ex.Var 2))
+    ∷ line.Node (t.Stream (t.List t.Int)) (l.Map (line_code 2 []) (ex.Var 3))
     ∷ line.Node (t.Stream t.Int) (l.Split (ex.Var 4))
     ∷ line.Node (t.Cell t.Int) (l.Hold (lit 9) (ex.Var 2))
     ∷ [])
@@ -41,13 +41,13 @@ few = record usual { moments = 4 }
 abbrev pub first : Moment
 first = record {
   time = 0 ∷ [];
-  born = stream 0 t.Int s.Sink
-      ∷ stream 1 t.Int (s.Loop (item 5))
-      ∷ stream 2 t.Int (s.Merge (lam 0 []) (item 0) (item 1))
-      ∷ stream 3 t.Int (s.Filter (lam 1 []) (item 2))
-      ∷ stream 4 (t.List t.Int) (s.Map (lam 2 []) (item 3))
-      ∷ stream 5 t.Int (s.Split (item 4))
-      ∷ cell 6 t.Int (s.Hold (item 2)) (num 9)
+  born = stream_node 0 t.Int s.Sink
+      ∷ stream_node 1 t.Int (s.Loop (item 5))
+      ∷ stream_node 2 t.Int (s.Merge (lam 0 []) (item 0) (item 1))
+      ∷ stream_node 3 t.Int (s.Filter (lam 1 []) (item 2))
+      ∷ stream_node 4 (t.List t.Int) (s.Map (lam 2 []) (item 3))
+      ∷ stream_node 5 t.Int (s.Split (item 4))
+      ∷ cell_node 6 t.Int (s.Hold (item 2)) (num 9)
       ∷ [];
   fired = [];
 }

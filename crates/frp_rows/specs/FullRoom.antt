@@ -13,7 +13,7 @@ use Rattle.frp_graph.specs.declared.trace.Moment.{Moment}
 use Rattle.frp_history.specs.declared.history.Cmd.{Cmd}
 use Rattle.frp_history.specs.declared.history.Entry.{Entry}
 use Rattle.frp_history.specs.declared.history.Reply.TheVariants.{Accepted}
-use Rattle.frp_rows.specs.Writing.{item, num, stream, fires, send, sends}
+use Rattle.frp_rows.specs.Writing.{item, num, stream_node, fires, send, sends}
 use Rattle.frp_graph.specs.declared.evidence.Evidence.{Evidence}
 use Rattle.frp_graph.specs.declared.evidence.Why.TheVariants.{Full}
 use Rattle.frp_history.specs.declared.history.Reply.TheVariants.{Refused}
@@ -58,7 +58,7 @@ made k p = record { name = made_name (item k) (p ∷ []) 0; shape = s.Constant; 
 abbrev pub first : Moment
 first = record {
   time = 0 ∷ [];
-  born = stream 0 t.Int s.Sink ∷ stream 1 t.Int (s.Execute (item 0) 0 []) ∷ stream 2 t.Int (s.Execute (item 0) 0 []) ∷ [];
+  born = stream_node 0 t.Int s.Sink ∷ stream_node 1 t.Int (s.Execute (item 0) 0 []) ∷ stream_node 2 t.Int (s.Execute (item 0) 0 []) ∷ [];
   fired = [];
 }
 

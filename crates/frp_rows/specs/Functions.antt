@@ -16,7 +16,7 @@ use Rattle.frp_graph.specs.declared.trace.Moment.{Moment}
 use Rattle.frp_history.specs.declared.history.Cmd.{Cmd}
 use Rattle.frp_history.specs.declared.history.Entry.{Entry}
 use Rattle.frp_history.specs.declared.history.Reply.TheVariants.{Accepted}
-use Rattle.frp_rows.specs.Writing.{item, num, lit, code, lam, stream, cell, fires, moment, listens, send, sends, leaves, gave}
+use Rattle.frp_rows.specs.Writing.{item, num, lit, line_code, lam, stream_node, cell_node, fires, moment, listens, send, sends, leaves, gave}
 
 abbrev pub prog : Prog
 prog = record {
@@ -30,12 +30,12 @@ prog = record {
     give = None;
     lines = line.Node (t.Stream t.Int) l.Sink
         ∷ line.Node (t.Cell t.Int) (l.Hold (lit 1) (ex.Var 0))
-        ∷ line.Node (t.Cell (t.Fun t.Int t.Int)) (l.Mapc (code 0 []) (ex.Var 1))
+        ∷ line.Node (t.Cell (t.Fun t.Int t.Int)) (l.Mapc (line_code 0 []) (ex.Var 1))
         ∷ line.Node (t.Cell t.Int) (l.Apply (ex.Var 2) (ex.Var 1))
         ∷ line.Node (t.Stream t.Int) (l.Value (ex.Var 1))
         ∷ line.Node (t.Stream t.Int) (l.Updates (ex.Var 3))
         ∷ line.Node (t.Stream t.Int) l.Never
-        ∷ line.Node (t.Stream t.Int) (l.Merge (code 1 []) (ex.Var 5) (ex.Var 6))
+        ∷ line.Node (t.Stream t.Int) (l.Merge (line_code 1 []) (ex.Var 5) (ex.Var 6))
         ∷ [];
   };
 }
@@ -48,14 +48,14 @@ adds n = v.Fun 0 (num n ∷ [])
 abbrev pub first : Moment
 first = record {
   time = 0 ∷ [];
-  born = stream 0 t.Int s.Sink
-      ∷ cell 1 t.Int (s.Hold (item 0)) (num 1)
-      ∷ cell 2 (t.Fun t.Int t.Int) (s.Mapc (lam 0 []) (item 1)) (adds 1)
-      ∷ cell 3 t.Int (s.Apply (item 2) (item 1)) (num 2)
-      ∷ stream 4 t.Int (s.Value (item 1))
-      ∷ stream 5 t.Int (s.Updates (item 3))
-      ∷ stream 6 t.Int s.Never
-      ∷ stream 7 t.Int (s.Merge (lam 1 []) (item 5) (item 6))
+  born = stream_node 0 t.Int s.Sink
+      ∷ cell_node 1 t.Int (s.Hold (item 0)) (num 1)
+      ∷ cell_node 2 (t.Fun t.Int t.Int) (s.Mapc (lam 0 []) (item 1)) (adds 1)
+      ∷ cell_node 3 t.Int (s.Apply (item 2) (item 1)) (num 2)
+      ∷ stream_node 4 t.Int (s.Value (item 1))
+      ∷ stream_node 5 t.Int (s.Updates (item 3))
+      ∷ stream_node 6 t.Int s.Never
+      ∷ stream_node 7 t.Int (s.Merge (lam 1 []) (item 5) (item 6))
       ∷ [];
   fired = fires 4 (num 1) ∷ [];
 }

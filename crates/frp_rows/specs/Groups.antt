@@ -18,21 +18,21 @@ use Rattle.frp_history.specs.declared.history.Cmd.TheVariants as cmd
 use Rattle.frp_history.specs.declared.history.Reply.TheVariants.{Accepted, Refused}
 use Rattle.frp_history.specs.declared.history.No.TheVariants.{Twice}
 use Rattle.std.specs.Prelude.{negsuc}
-use Rattle.frp_rows.specs.Writing.{item, num, program, code, lam, stream, fires, moment, listens, send, sends, sends_all, leaves, gave}
+use Rattle.frp_rows.specs.Writing.{item, num, program, line_code, lam, stream_node, fires, moment, listens, send, sends, sends_all, leaves, gave}
 
 abbrev pub prog : Prog
 prog = record (program (ex.Sub (ex.Var 0) (ex.Var 1) ∷ ex.Add (ex.Var 0) (ex.Var 1) ∷ [])
     (line.Node (t.Stream t.Int) l.Sink
     ∷ line.Node (t.Stream t.Int) l.Sink
-    ∷ line.Node (t.Stream t.Int) (l.Merge (code 0 []) (ex.Var 0) (ex.Var 1))
+    ∷ line.Node (t.Stream t.Int) (l.Merge (line_code 0 []) (ex.Var 0) (ex.Var 1))
     ∷ [])) { joins = record { item = 0; code = 1 } ∷ [] }
 
 abbrev pub first : Moment
 first = record {
   time = 0 ∷ [];
-  born = stream 0 t.Int s.Sink
-      ∷ stream 1 t.Int s.Sink
-      ∷ stream 2 t.Int (s.Merge (lam 0 []) (item 0) (item 1))
+  born = stream_node 0 t.Int s.Sink
+      ∷ stream_node 1 t.Int s.Sink
+      ∷ stream_node 2 t.Int (s.Merge (lam 0 []) (item 0) (item 1))
       ∷ [];
   fired = [];
 }

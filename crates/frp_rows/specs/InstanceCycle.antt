@@ -24,13 +24,13 @@ use Rattle.frp_graph.specs.declared.evidence.Why.TheVariants.{Chain, Full}
 use Rattle.frp_graph.specs.declared.limits.Limits.{Limits}
 use Rattle.frp_history.specs.declared.history.Reply.TheVariants.{Refused}
 use Rattle.frp_history.specs.declared.history.No.TheVariants.{Cyclic}
-use Rattle.frp_rows.specs.Writing.{item, num, code, lam, stream, fires, ranked, usual, send, sends}
+use Rattle.frp_rows.specs.Writing.{item, num, line_code, lam, stream_node, fires, ranked, usual, send, sends}
 
 abbrev pub looping : Body
 looping = record {
   param = Some t.Int;
   kept = [];
-  lines = line.Node (t.Cell t.Int) (l.Loop 2) ∷ line.Node (t.Cell t.Int) (l.Mapc (code 0 []) (ex.Var 1)) ∷ [];
+  lines = line.Node (t.Cell t.Int) (l.Loop 2) ∷ line.Node (t.Cell t.Int) (l.Mapc (line_code 0 []) (ex.Var 1)) ∷ [];
   give = Some (ex.Var 0);
 }
 
@@ -49,7 +49,7 @@ prog = record {
 }
 
 abbrev pub first : Moment
-first = record { time = 0 ∷ []; born = stream 0 t.Int s.Sink ∷ stream 1 t.Int (s.Execute (item 0) 0 []) ∷ []; fired = [] }
+first = record { time = 0 ∷ []; born = stream_node 0 t.Int s.Sink ∷ stream_node 1 t.Int (s.Execute (item 0) 0 []) ∷ []; fired = [] }
 
 abbrev pub trace : List Moment
 trace = first ∷ []

@@ -14,7 +14,7 @@ use Rattle.frp_graph.specs.declared.trace.Moment.{Moment}
 use Rattle.frp_history.specs.declared.history.Cmd.{Cmd}
 use Rattle.frp_history.specs.declared.history.Entry.{Entry}
 use Rattle.frp_history.specs.declared.history.Reply.TheVariants.{Accepted}
-use Rattle.frp_rows.specs.Writing.{item, stream_of, cell_of, num, lit, stream, cell, fires, listens, send, sends, leaves, gave}
+use Rattle.frp_rows.specs.Writing.{item, stream_val, cell_val, num, lit, stream_node, cell_node, fires, listens, send, sends, leaves, gave}
 use Rattle.std.specs.Prelude.{ℕ, Some, None}
 use Rattle.frp_base.specs.declared.name.Name.{Name}
 use Rattle.frp_base.specs.Name.{made_name}
@@ -51,12 +51,12 @@ prog = record {
 abbrev pub first : Moment
 first = record {
   time = 0 ∷ [];
-  born = stream 0 t.Int s.Sink
-      ∷ stream 1 (t.Cell t.Int) (s.Execute (item 0) 0 (stream_of 0 ∷ []))
-      ∷ stream 2 t.Int (s.Execute (item 1) 1 [])
-      ∷ cell 3 t.Int s.Constant (num 5)
-      ∷ cell 4 (t.Cell t.Int) (s.Hold (item 1)) (cell_of 3)
-      ∷ cell 5 t.Int (s.Switchc (item 4)) (num 5)
+  born = stream_node 0 t.Int s.Sink
+      ∷ stream_node 1 (t.Cell t.Int) (s.Execute (item 0) 0 (stream_val 0 ∷ []))
+      ∷ stream_node 2 t.Int (s.Execute (item 1) 1 [])
+      ∷ cell_node 3 t.Int s.Constant (num 5)
+      ∷ cell_node 4 (t.Cell t.Int) (s.Hold (item 1)) (cell_val 3)
+      ∷ cell_node 5 t.Int (s.Switchc (item 4)) (num 5)
       ∷ [];
   fired = [];
 }

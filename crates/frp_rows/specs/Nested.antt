@@ -17,7 +17,7 @@ use Rattle.frp_graph.specs.declared.trace.Moment.{Moment}
 use Rattle.frp_graph.specs.declared.trace.Sent.{Sent}
 use Rattle.frp_history.specs.declared.history.Entry.{Entry}
 use Rattle.frp_history.specs.declared.history.Reply.TheVariants.{Accepted}
-use Rattle.frp_rows.specs.Writing.{item, stream_of, num, stream, fires, sent_at, sends}
+use Rattle.frp_rows.specs.Writing.{item, stream_val, num, stream_node, fires, sent_at, sends}
 
 abbrev pub inner : Body
 inner = record { param = Some t.Int; kept = []; lines = line.Node (t.Cell t.Int) (l.Constant (ex.Var 0)) ∷ []; give = Some (ex.Var 0) }
@@ -47,7 +47,7 @@ prog = record {
 abbrev pub first : Moment
 first = record {
   time = 0 ∷ [];
-  born = stream 0 t.Int s.Sink ∷ stream 1 (t.Stream t.Int) (s.Execute (item 0) 1 (stream_of 0 ∷ [])) ∷ [];
+  born = stream_node 0 t.Int s.Sink ∷ stream_node 1 (t.Stream t.Int) (s.Execute (item 0) 1 (stream_val 0 ∷ [])) ∷ [];
   fired = [];
 }
 

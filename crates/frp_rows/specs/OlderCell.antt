@@ -18,7 +18,7 @@ use Rattle.frp_graph.specs.declared.prog.Body.{Body}
 use Rattle.frp_graph.specs.declared.trace.Fact.{Fact}
 use Rattle.frp_history.specs.declared.history.Cmd.TheVariants as cmd
 use Rattle.frp_history.specs.declared.history.Reply.TheVariants.{Accepted, Joined}
-use Rattle.frp_rows.specs.Writing.{item, cell_of, stream_of, num, lit, stream, cell, fires, moment, key, sends, leaves, gave}
+use Rattle.frp_rows.specs.Writing.{item, cell_val, stream_val, num, lit, stream_node, cell_node, fires, moment, key, sends, leaves, gave}
 
 abbrev pub late : Body
 late = record {
@@ -49,10 +49,10 @@ prog = record {
 abbrev pub first : Moment
 first = record {
   time = 0 ∷ [];
-  born = stream 0 t.Int s.Sink
-      ∷ stream 1 (t.List t.Int) s.Sink
-      ∷ cell 2 t.Int (s.Hold (item 0)) (num 0)
-      ∷ stream 3 (t.Cell t.Int) (s.Execute (item 1) 0 (cell_of 2 ∷ stream_of 1 ∷ []))
+  born = stream_node 0 t.Int s.Sink
+      ∷ stream_node 1 (t.List t.Int) s.Sink
+      ∷ cell_node 2 t.Int (s.Hold (item 0)) (num 0)
+      ∷ stream_node 3 (t.Cell t.Int) (s.Execute (item 1) 0 (cell_val 2 ∷ stream_val 1 ∷ []))
       ∷ [];
   fired = [];
 }

@@ -13,7 +13,7 @@ use Rattle.frp_graph.specs.declared.trace.Moment.{Moment}
 use Rattle.frp_history.specs.declared.history.Cmd.{Cmd}
 use Rattle.frp_history.specs.declared.history.Entry.{Entry}
 use Rattle.frp_history.specs.declared.history.Reply.TheVariants.{Accepted}
-use Rattle.frp_rows.specs.Writing.{item, num, program, stream, fires, moment, listens, send, sends, leaves, gave}
+use Rattle.frp_rows.specs.Writing.{item, num, program, stream_node, fires, moment, listens, send, sends, leaves, gave}
 
 abbrev pub prog : Prog
 prog = program []
@@ -22,7 +22,7 @@ prog = program []
     ∷ [])
 
 abbrev pub first : Moment
-first = record { time = 0 ∷ []; born = stream 0 (t.Option t.Int) s.Sink ∷ stream 1 t.Int (s.Filteropt (item 0)) ∷ []; fired = [] }
+first = record { time = 0 ∷ []; born = stream_node 0 (t.Option t.Int) s.Sink ∷ stream_node 1 t.Int (s.Filteropt (item 0)) ∷ []; fired = [] }
 
 abbrev pub second : Moment
 second = moment (2 ∷ []) (fires 0 (v.Present (num 4)) ∷ fires 1 (num 4) ∷ [])

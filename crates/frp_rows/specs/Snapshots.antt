@@ -12,21 +12,21 @@ use Rattle.frp_graph.specs.declared.trace.Moment.{Moment}
 use Rattle.frp_history.specs.declared.history.Cmd.{Cmd}
 use Rattle.frp_history.specs.declared.history.Entry.{Entry}
 use Rattle.frp_history.specs.declared.history.Reply.TheVariants.{Accepted}
-use Rattle.frp_rows.specs.Writing.{item, num, lit, program, code, lam, stream, cell, fires, moment, listens, send, sends, leaves, gave}
+use Rattle.frp_rows.specs.Writing.{item, num, lit, program, line_code, lam, stream_node, cell_node, fires, moment, listens, send, sends, leaves, gave}
 
 abbrev pub prog : Prog
 prog = program (ex.Var 1 ∷ [])
     (line.Node (t.Stream t.Int) l.Sink
     ∷ line.Node (t.Cell t.Int) (l.Hold (lit 0) (ex.Var 0))
-    ∷ line.Node (t.Stream t.Int) (l.Snapshot (code 0 []) (ex.Var 0) (ex.Var 1))
+    ∷ line.Node (t.Stream t.Int) (l.Snapshot (line_code 0 []) (ex.Var 0) (ex.Var 1))
     ∷ [])
 
 abbrev pub first : Moment
 first = record {
   time = 0 ∷ [];
-  born = stream 0 t.Int s.Sink
-      ∷ cell 1 t.Int (s.Hold (item 0)) (num 0)
-      ∷ stream 2 t.Int (s.Snapshot (lam 0 []) (item 0) (item 1))
+  born = stream_node 0 t.Int s.Sink
+      ∷ cell_node 1 t.Int (s.Hold (item 0)) (num 0)
+      ∷ stream_node 2 t.Int (s.Snapshot (lam 0 []) (item 0) (item 1))
       ∷ [];
   fired = [];
 }

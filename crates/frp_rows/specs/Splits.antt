@@ -14,25 +14,25 @@ use Rattle.frp_graph.specs.declared.trace.Moment.{Moment}
 use Rattle.frp_history.specs.declared.history.Cmd.{Cmd}
 use Rattle.frp_history.specs.declared.history.Entry.{Entry}
 use Rattle.frp_history.specs.declared.history.Reply.TheVariants.{Accepted}
-use Rattle.frp_rows.specs.Writing.{item, num, lit, program, code, lam, stream, fires, moment, listens, send, sends, leaves, gave}
+use Rattle.frp_rows.specs.Writing.{item, num, lit, program, line_code, lam, stream_node, fires, moment, listens, send, sends, leaves, gave}
 
 abbrev pub prog : Prog
 prog = program (ex.List (lit 9 ∷ []) ∷ ex.Add (ex.Var 0) (ex.Var 1) ∷ [])
     (line.Node (t.Stream (t.List t.Int)) l.Sink
-    ∷ line.Node (t.Stream (t.List t.Int)) (l.Map (code 0 []) (ex.Var 0))
+    ∷ line.Node (t.Stream (t.List t.Int)) (l.Map (line_code 0 []) (ex.Var 0))
     ∷ line.Node (t.Stream t.Int) (l.Split (ex.Var 0))
     ∷ line.Node (t.Stream t.Int) (l.Split (ex.Var 1))
-    ∷ line.Node (t.Stream t.Int) (l.Merge (code 1 []) (ex.Var 2) (ex.Var 3))
+    ∷ line.Node (t.Stream t.Int) (l.Merge (line_code 1 []) (ex.Var 2) (ex.Var 3))
     ∷ [])
 
 abbrev pub first : Moment
 first = record {
   time = 0 ∷ [];
-  born = stream 0 (t.List t.Int) s.Sink
-      ∷ stream 1 (t.List t.Int) (s.Map (lam 0 []) (item 0))
-      ∷ stream 2 t.Int (s.Split (item 0))
-      ∷ stream 3 t.Int (s.Split (item 1))
-      ∷ stream 4 t.Int (s.Merge (lam 1 []) (item 2) (item 3))
+  born = stream_node 0 (t.List t.Int) s.Sink
+      ∷ stream_node 1 (t.List t.Int) (s.Map (lam 0 []) (item 0))
+      ∷ stream_node 2 t.Int (s.Split (item 0))
+      ∷ stream_node 3 t.Int (s.Split (item 1))
+      ∷ stream_node 4 t.Int (s.Merge (lam 1 []) (item 2) (item 3))
       ∷ [];
   fired = [];
 }

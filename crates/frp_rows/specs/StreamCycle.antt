@@ -13,7 +13,7 @@ use Rattle.frp_graph.specs.declared.trace.Moment.{Moment}
 use Rattle.frp_history.specs.declared.history.Cmd.{Cmd}
 use Rattle.frp_history.specs.declared.history.Entry.{Entry}
 use Rattle.frp_history.specs.declared.history.Reply.TheVariants.{Accepted}
-use Rattle.frp_rows.specs.Writing.{item, stream_of, num, lit, program, code, lam, stream, cell, fires, moment, listens, send, sends, leaves, gave}
+use Rattle.frp_rows.specs.Writing.{item, stream_val, num, lit, program, line_code, lam, stream_node, cell_node, fires, moment, listens, send, sends, leaves, gave}
 use Rattle.frp_graph.specs.declared.evidence.Evidence.{Evidence}
 use Rattle.frp_graph.specs.declared.evidence.Phase.TheVariants.{After}
 use Rattle.frp_graph.specs.declared.evidence.Why.TheVariants.{Chain}
@@ -27,17 +27,17 @@ prog = program (ex.Add (ex.Var 0) (lit 1) ∷ [])
     ∷ line.Node (t.Stream t.Int) l.Sink
     ∷ line.Node (t.Cell (t.Stream t.Int)) (l.Hold (ex.Var 1) (ex.Var 0))
     ∷ line.Node (t.Stream t.Int) (l.Switchs (ex.Var 2))
-    ∷ line.Node (t.Stream t.Int) (l.Map (code 0 []) (ex.Var 3))
+    ∷ line.Node (t.Stream t.Int) (l.Map (line_code 0 []) (ex.Var 3))
     ∷ [])
 
 abbrev pub first : Moment
 first = record {
   time = 0 ∷ [];
-  born = stream 0 (t.Stream t.Int) s.Sink
-      ∷ stream 1 t.Int s.Sink
-      ∷ cell 2 (t.Stream t.Int) (s.Hold (item 0)) (stream_of 1)
-      ∷ stream 3 t.Int (s.Switchs (item 2))
-      ∷ stream 4 t.Int (s.Map (lam 0 []) (item 3))
+  born = stream_node 0 (t.Stream t.Int) s.Sink
+      ∷ stream_node 1 t.Int s.Sink
+      ∷ cell_node 2 (t.Stream t.Int) (s.Hold (item 0)) (stream_val 1)
+      ∷ stream_node 3 t.Int (s.Switchs (item 2))
+      ∷ stream_node 4 t.Int (s.Map (lam 0 []) (item 3))
       ∷ [];
   fired = [];
 }
@@ -54,7 +54,7 @@ trace = first ∷ second
 abbrev pub evidence : Evidence
 evidence = record {
   done = [];
-  last = moment (3 ∷ []) (fires 0 (stream_of 4) ∷ fires 2 (stream_of 4) ∷ []);
+  last = moment (3 ∷ []) (fires 0 (stream_val 4) ∷ fires 2 (stream_val 4) ∷ []);
   ranks = ranked 0 0 ∷ ranked 1 0 ∷ ranked 2 1 ∷ ranked 3 1 ∷ ranked 4 2 ∷ [];
   level = 3;
   why = Chain After (item 3 ∷ item 4 ∷ []);
@@ -63,7 +63,7 @@ evidence = record {
 abbrev pub entries : List Entry
 entries = listens 4 1
     ∷ sends 1 (num 1) (Accepted 1)
-    ∷ sends 0 (stream_of 4) (Refused (no.Cyclic evidence))
+    ∷ sends 0 (stream_val 4) (Refused (no.Cyclic evidence))
     ∷ sends 1 (num 2) (Accepted 1)
     ∷ leaves 1 (gave (2 ∷ []) 2 ∷ gave (4 ∷ []) 3 ∷ [])
     ∷ []
@@ -73,4 +73,4 @@ abbrev pub listened : List Name
 listened = item 4 ∷ []
 
 abbrev pub script : List Cmd
-script = send 1 (num 1) ∷ send 0 (stream_of 4) ∷ send 1 (num 2) ∷ []
+script = send 1 (num 1) ∷ send 0 (stream_val 4) ∷ send 1 (num 2) ∷ []

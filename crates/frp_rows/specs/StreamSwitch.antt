@@ -13,14 +13,14 @@ use Rattle.frp_graph.specs.declared.trace.Moment.{Moment}
 use Rattle.frp_history.specs.declared.history.Cmd.{Cmd}
 use Rattle.frp_history.specs.declared.history.Entry.{Entry}
 use Rattle.frp_history.specs.declared.history.Reply.TheVariants.{Accepted}
-use Rattle.frp_rows.specs.Writing.{item, stream_of, num, lit, program, code, lam, stream, cell, fires, moment, listens, send, sends, leaves, gave}
+use Rattle.frp_rows.specs.Writing.{item, stream_val, num, lit, program, line_code, lam, stream_node, cell_node, fires, moment, listens, send, sends, leaves, gave}
 
 abbrev pub prog : Prog
 prog = program (ex.Add (ex.Var 0) (lit 100) ∷ ex.Add (ex.Var 0) (lit 200) ∷ ex.If (ex.Lt (ex.Var 2) (lit 2)) (ex.Var 0) (ex.Var 1) ∷ [])
     (line.Node (t.Stream t.Int) l.Sink
-    ∷ line.Node (t.Stream t.Int) (l.Map (code 0 []) (ex.Var 0))
-    ∷ line.Node (t.Stream t.Int) (l.Map (code 1 []) (ex.Var 0))
-    ∷ line.Node (t.Stream (t.Stream t.Int)) (l.Map (code 2 (1 ∷ 2 ∷ [])) (ex.Var 0))
+    ∷ line.Node (t.Stream t.Int) (l.Map (line_code 0 []) (ex.Var 0))
+    ∷ line.Node (t.Stream t.Int) (l.Map (line_code 1 []) (ex.Var 0))
+    ∷ line.Node (t.Stream (t.Stream t.Int)) (l.Map (line_code 2 (1 ∷ 2 ∷ [])) (ex.Var 0))
     ∷ line.Node (t.Cell (t.Stream t.Int)) (l.Hold (ex.Var 1) (ex.Var 3))
     ∷ line.Node (t.Stream t.Int) (l.Switchs (ex.Var 4))
     ∷ [])
@@ -28,26 +28,26 @@ prog = program (ex.Add (ex.Var 0) (lit 100) ∷ ex.Add (ex.Var 0) (lit 200) ∷ 
 abbrev pub first : Moment
 first = record {
   time = 0 ∷ [];
-  born = stream 0 t.Int s.Sink
-      ∷ stream 1 t.Int (s.Map (lam 0 []) (item 0))
-      ∷ stream 2 t.Int (s.Map (lam 1 []) (item 0))
-      ∷ stream 3 (t.Stream t.Int) (s.Map (lam 2 (stream_of 1 ∷ stream_of 2 ∷ [])) (item 0))
-      ∷ cell 4 (t.Stream t.Int) (s.Hold (item 3)) (stream_of 1)
-      ∷ stream 5 t.Int (s.Switchs (item 4))
+  born = stream_node 0 t.Int s.Sink
+      ∷ stream_node 1 t.Int (s.Map (lam 0 []) (item 0))
+      ∷ stream_node 2 t.Int (s.Map (lam 1 []) (item 0))
+      ∷ stream_node 3 (t.Stream t.Int) (s.Map (lam 2 (stream_val 1 ∷ stream_val 2 ∷ [])) (item 0))
+      ∷ cell_node 4 (t.Stream t.Int) (s.Hold (item 3)) (stream_val 1)
+      ∷ stream_node 5 t.Int (s.Switchs (item 4))
       ∷ [];
   fired = [];
 }
 
 abbrev pub second : Moment
-second = moment (2 ∷ []) (fires 0 (num 1) ∷ fires 1 (num 101) ∷ fires 2 (num 201) ∷ fires 3 (stream_of 1) ∷ fires 4 (stream_of 1) ∷ fires 5 (num 101) ∷ [])
+second = moment (2 ∷ []) (fires 0 (num 1) ∷ fires 1 (num 101) ∷ fires 2 (num 201) ∷ fires 3 (stream_val 1) ∷ fires 4 (stream_val 1) ∷ fires 5 (num 101) ∷ [])
 
 -- here the cell steps to the second stream
 abbrev pub third : Moment
-third = moment (3 ∷ []) (fires 0 (num 2) ∷ fires 1 (num 102) ∷ fires 2 (num 202) ∷ fires 3 (stream_of 2) ∷ fires 4 (stream_of 2) ∷ fires 5 (num 102) ∷ [])
+third = moment (3 ∷ []) (fires 0 (num 2) ∷ fires 1 (num 102) ∷ fires 2 (num 202) ∷ fires 3 (stream_val 2) ∷ fires 4 (stream_val 2) ∷ fires 5 (num 102) ∷ [])
 
 abbrev pub trace : List Moment
 trace = first ∷ second ∷ third
-    ∷ moment (4 ∷ []) (fires 0 (num 3) ∷ fires 1 (num 103) ∷ fires 2 (num 203) ∷ fires 3 (stream_of 2) ∷ fires 4 (stream_of 2) ∷ fires 5 (num 203) ∷ [])
+    ∷ moment (4 ∷ []) (fires 0 (num 3) ∷ fires 1 (num 103) ∷ fires 2 (num 203) ∷ fires 3 (stream_val 2) ∷ fires 4 (stream_val 2) ∷ fires 5 (num 203) ∷ [])
     ∷ []
 
 abbrev pub entries : List Entry

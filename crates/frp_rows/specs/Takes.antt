@@ -13,13 +13,13 @@ use Rattle.frp_history.specs.declared.history.Cmd.TheVariants as cmd
 use Rattle.frp_history.specs.declared.history.Reply.{Reply}
 use Rattle.frp_history.specs.declared.history.Reply.TheVariants.{Accepted, Joined, Given, Left}
 use Rattle.frp_history.specs.declared.history.Entry.{Entry}
-use Rattle.frp_rows.specs.Writing.{item, num, lit, program, stream, cell, fires, moment, key, gave}
+use Rattle.frp_rows.specs.Writing.{item, num, lit, program, stream_node, cell_node, fires, moment, key, gave}
 
 abbrev pub prog : Prog
 prog = program [] (line.Node (t.Stream t.Int) l.Sink ∷ line.Node (t.Cell t.Int) (l.Hold (lit 0) (ex.Var 0)) ∷ [])
 
 abbrev pub first : Moment
-first = record { time = 0 ∷ []; born = stream 0 t.Int s.Sink ∷ cell 1 t.Int (s.Hold (item 0)) (num 0) ∷ []; fired = [] }
+first = record { time = 0 ∷ []; born = stream_node 0 t.Int s.Sink ∷ cell_node 1 t.Int (s.Hold (item 0)) (num 0) ∷ []; fired = [] }
 
 abbrev pub trace : List Moment
 trace = first

@@ -13,7 +13,7 @@ use Rattle.frp_graph.specs.declared.trace.Moment.{Moment}
 use Rattle.frp_base.specs.Name.{made_name}
 use Rattle.frp_graph.specs.declared.prog.Body.{Body}
 use Rattle.frp_graph.specs.declared.trace.Sent.{Sent}
-use Rattle.frp_rows.specs.Writing.{item, num, stream, fires, sent_at}
+use Rattle.frp_rows.specs.Writing.{item, num, stream_node, fires, sent_at}
 
 abbrev pub keeping : Body
 keeping = record {
@@ -40,13 +40,13 @@ prog = record {
 abbrev pub made : Name
 made = made_name (item 1) (1 ∷ []) 0
 
-abbrev pub sends : List Sent
-sends = sent_at 1 0 (v.Cell made) ∷ []
+abbrev pub tried : List Sent
+tried = sent_at 1 0 (v.Cell made) ∷ []
 
 abbrev pub first : Moment
 first = record {
   time = 0 ∷ [];
-  born = stream 0 (t.Cell t.Int) s.Sink ∷ stream 1 t.Int (s.Execute (item 0) 0 []) ∷ [];
+  born = stream_node 0 (t.Cell t.Int) s.Sink ∷ stream_node 1 t.Int (s.Execute (item 0) 0 []) ∷ [];
   fired = [];
 }
 

@@ -32,11 +32,11 @@ use Rattle.frp_history.specs.declared.history.Entry.{Entry}
 abbrev pub item : ℕ → Name
 item = declared_name
 
-abbrev pub stream_of : ℕ → Val
-stream_of k = v.Stream (item k)
+abbrev pub stream_val : ℕ → Val
+stream_val k = v.Stream (item k)
 
-abbrev pub cell_of : ℕ → Val
-cell_of k = v.Cell (item k)
+abbrev pub cell_val : ℕ → Val
+cell_val k = v.Cell (item k)
 
 -- a number as a value, and as an expression
 abbrev pub num : ℕ → Val
@@ -51,18 +51,18 @@ program codes lines =
     record { codes = codes; funs = []; templates = []; body = record { param = None; kept = []; lines = lines; give = None }; joins = [] }
 
 -- an expression of the program, by its number, over these values of the body, by their positions; and with kept values
-abbrev pub code : ℕ → List ℕ → LineLam
-code k kept = record { code = k; kept = kept }
+abbrev pub line_code : ℕ → List ℕ → LineLam
+line_code k kept = record { code = k; kept = kept }
 
 abbrev pub lam : ℕ → List Val → Lam
 lam k kept = record { code = k; kept = kept }
 
 -- a stream and a cell of the file, by its item
-abbrev pub stream : ℕ → Ty → Shape → Node
-stream k a shape = record { name = item k; shape = shape; ty = t.Stream a; first = None }
+abbrev pub stream_node : ℕ → Ty → Shape → Node
+stream_node k a shape = record { name = item k; shape = shape; ty = t.Stream a; first = None }
 
-abbrev pub cell : ℕ → Ty → Shape → Val → Node
-cell k a shape v = record { name = item k; shape = shape; ty = t.Cell a; first = Some v }
+abbrev pub cell_node : ℕ → Ty → Shape → Val → Node
+cell_node k a shape v = record { name = item k; shape = shape; ty = t.Cell a; first = Some v }
 
 -- a node of the file fires
 abbrev pub fires : ℕ → Val → Fact

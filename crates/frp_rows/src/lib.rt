@@ -69,7 +69,7 @@ pub fn splits()
     ensures legal { IsLegal splits_row.prog usual splits_row.entries splits_row.trace }
     ensures session { IsSession splits_row.listened (splits_row.script ∷ []) splits_row.entries }
     ensures candidates { map (λ x. x.name)
-        (candidates splits_row.prog (sends_of splits_row.entries) (sight_of (splits_row.first ∷ splits_row.sent ∷ []) splits_row.both) splits_row.first.born)
+        (candidates (sends_of splits_row.entries) (sight_of (splits_row.first ∷ splits_row.sent ∷ []) splits_row.both) splits_row.first.born)
         ≡ item 2 ∷ item 3 ∷ item 4 ∷ [] }
 {}
 
@@ -109,7 +109,7 @@ pub fn instances()
     ensures session { IsSession instances_row.listened (instances_row.script ∷ []) instances_row.entries }
     ensures well_formed { IsWellFormed instances_row.prog (sight_of (instances_row.first ∷ []) instances_row.third) }
     ensures candidates { map (λ x. x.name)
-        (candidates instances_row.prog (sends_of instances_row.entries) (sight_of (instances_row.first ∷ []) instances_row.third)
+        (candidates (sends_of instances_row.entries) (sight_of (instances_row.first ∷ []) instances_row.third)
         (instances_row.first.born ++ instances_row.third.born))
         ≡ item 0 ∷ item 1 ∷ item 2 ∷ item 4 ∷ item 5 ∷ instances_row.made 3 ∷ [] }
 {}
@@ -121,9 +121,12 @@ pub fn stream_cycle()
     ensures session { IsSession stream_cycle_row.listened (stream_cycle_row.script ∷ []) stream_cycle_row.entries }
 {}
 
-/// A build of cells that would begin with their own first values is refused.
+/// A build of cells that would begin with their own first values is refused; the graph that is seen then is well formed, and
+/// cells of it have no first value.
 pub fn birth_cycle()
     ensures typed { IsTypedProg birth_cycle_row.prog }
+    ensures well_formed { IsWellFormed birth_cycle_row.prog (sight_of [] birth_cycle_row.last) }
+    ensures no_firsts { HasFirsts (sight_of [] birth_cycle_row.last) → ⊥ }
     ensures refused { IsRefusedBuild birth_cycle_row.prog usual birth_cycle_row.evidence }
 {}
 
@@ -224,11 +227,11 @@ pub fn untyped()
 /// Where a send could name the node that its own transaction makes, several traces would be the program's; it can't be sent.
 pub fn unsendable()
     ensures typed { IsTypedProg unsendable_row.prog }
-    ensures with_five { IsTrace unsendable_row.prog unsendable_row.sends (unsendable_row.trace 5) }
-    ensures with_six { IsTrace unsendable_row.prog unsendable_row.sends (unsendable_row.trace 6) }
+    ensures with_five { IsTrace unsendable_row.prog unsendable_row.tried (unsendable_row.trace 5) }
+    ensures with_six { IsTrace unsendable_row.prog unsendable_row.tried (unsendable_row.trace 6) }
     ensures sound_five { AtEach (IsSoundAfter unsendable_row.prog) [] (unsendable_row.trace 5) }
     ensures sound_six { AtEach (IsSoundAfter unsendable_row.prog) [] (unsendable_row.trace 6) }
-    ensures refused { (n : ℕ) → AreSendable unsendable_row.prog unsendable_row.sends (unsendable_row.trace n) → ⊥ }
+    ensures refused { (n : ℕ) → AreSendable unsendable_row.prog unsendable_row.tried (unsendable_row.trace n) → ⊥ }
 {}
 
 /// A snapshot that reads the value after the step: what the snapshot gives at the second send refuses it.

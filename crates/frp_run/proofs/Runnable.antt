@@ -39,7 +39,6 @@ use Rattle.frp_type.specs.Faults.{all_tied, listened, scripted, checked}
 use Rattle.frp_type.specs.Known.{Known, nothing, named, declared, all_declared, item_known}
 use Rattle.frp_type.specs.Meaning.{each, known_with, line_shape, item_lines, lines_of, ties_of, known_after, node_named, sent_over, references_from, meaning}
 use Rattle.frp_type.specs.declared.typed.Typed.{Typed}
-use Rattle.frp_type.proofs.TypedShapes.{bind_ok, right_ok, ok_same}
 use Rattle.frp_type.proofs.TypedFiles.{step, after_is, sink_ok, let_ok, tie_known, fun_ok, faultless}
 use Rattle.frp_run.specs.Texts.{TextOutcome, ◌>>=◌, with_fault, reading, file_in, is_built_form, is_built_item, is_built_decl, is_built_file, typed_file, understood}
 use Rattle.frp_run.specs.Runs.{first_script, IsRunnable}

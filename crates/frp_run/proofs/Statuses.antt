@@ -2,7 +2,7 @@
 use Rattle.std.proofs.Common.{◌≡◌, ℕ, ◌≤◌, List, Option, Some, None, refl, subst, arith, inl, inr}
 use Rattle.std.specs.Prelude.{◌⊎◌, ◌^◌, IsSome}
 use Rattle.frp_io.specs.Outside.{Rose, Gave}
-use Rattle.frp_run.specs.Answers.{HasRead, IsAnswerTo, IsAnswerOf, IsOutput, IsFaultyText, IsUnbuiltText, IsTooLargeText, IsRefusedAs, IsRefusedUnbuilt, GaveMore, status_of, text_of, line_of}
+use Rattle.frp_run.specs.Answers.{HasRead, IsAnswerTo, IsAnswerOf, IsOutput, IsFaultyText, IsUnbuiltText, IsTooLargeText, IsRefusedAs, IsRefusedUnbuilt, GaveMore, status_of, answer_text, line_of}
 use Rattle.frp_run.specs.declared.modes.Mode.{Mode}
 use Rattle.frp_run.specs.declared.refused.Fault.{Fault}
 use Rattle.frp_run.specs.declared.answer.Refusal.TheVariants as r
@@ -17,7 +17,7 @@ has_read (Some mode) None after P Q f h = tt
 has_read (Some mode) (Some bytes) after P Q f h = (h.0, h.1, f mode bytes h.2)
 
 module _ (asked : Option Mode) (before after : Option (List ℕ)) (faults now : ℕ) (held holds : Option (List ℕ)) where
-  pub said_output : (x : Answer) → IsAnswerTo asked before after faults now x → Gave held holds (text_of x) → status_of x ≡ 0
+  pub said_output : (x : Answer) → IsAnswerTo asked before after faults now x → Gave held holds (answer_text x) → status_of x ≡ 0
       → HasRead asked before after (λ mode bytes. (text : List ℕ) × (IsOutput text mode bytes × Gave held holds text))
   said_output (a.Output text) h g e = has_read asked before after (IsAnswerOf (a.Output text)) _ (λ mode bytes o. (text, (o, g))) h
   said_output (a.Faulty fault line) h g e = absurd cc
@@ -28,7 +28,7 @@ module _ (asked : Option Mode) (before after : Option (List ℕ)) (faults now : 
   said_output (a.Refused r.Full) h g e = absurd cc
   said_output (a.Refused r.Size) h g e = absurd cc
 
-  pub said_refused : (x : Answer) → IsAnswerTo asked before after faults now x → Gave held holds (text_of x) → status_of x ≡ 1
+  pub said_refused : (x : Answer) → IsAnswerTo asked before after faults now x → Gave held holds (answer_text x) → status_of x ≡ 1
       → ((fault : Fault) × IsRefusedAs fault asked before after held holds) ⊎ IsRefusedUnbuilt asked before after held holds
   said_refused (a.Output text) h g e = absurd cc
   said_refused (a.Faulty fault line) h g e = inl (fault, record { cause = h.1; line = subst (λ text. Gave held holds text) h.0 g })
@@ -101,7 +101,7 @@ status_few (a.Refused r.Memory) = omega arith
 status_few (a.Refused r.Full) = omega arith
 status_few (a.Refused r.Size) = omega arith
 
-pub said_line : (x : Answer) (line : List ℕ) → line_of (status_of x) ≡ Some line → text_of x ≡ line
+pub said_line : (x : Answer) (line : List ℕ) → line_of (status_of x) ≡ Some line → answer_text x ≡ line
 said_line (a.Output text) line e = absurd cc
 said_line (a.Faulty fault found) line e = absurd cc
 said_line (a.Refused r.Unbuilt) line e = absurd cc

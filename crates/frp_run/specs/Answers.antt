@@ -103,10 +103,10 @@ status_of (a.Output text) = 0
 status_of (a.Faulty fault line) = 1
 status_of (a.Refused refusal) = refusal_status refusal
 
-abbrev pub text_of : Answer → List ℕ
-text_of (a.Output text) = text
-text_of (a.Faulty fault line) = line
-text_of (a.Refused refusal) = refusal_line refusal
+abbrev pub answer_text : Answer → List ℕ
+answer_text (a.Output text) = text
+answer_text (a.Faulty fault line) = line
+answer_text (a.Refused refusal) = refusal_line refusal
 
 -- What is answered to an input that was read, in a mode.
 
@@ -191,4 +191,4 @@ pub record GavePart (before after : Option (List ℕ)) (text : List ℕ) : Type 
 pub record AnswersPart (asked : Option Mode) (rest left : Option (List ℕ)) (faults now : ℕ) (before after : Option (List ℕ)) : Type 0 where
   pub answer : Answer
   pub is_answer : IsAnswerTo asked rest left faults now answer
-  pub part : GavePart before after (text_of answer)
+  pub part : GavePart before after (answer_text answer)

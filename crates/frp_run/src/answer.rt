@@ -6,7 +6,7 @@ ghost use Rattle.frp_graph.specs.Limits.{program_limits};
 ghost use Rattle.frp_graph.specs.TypedProg.{IsTypedProg};
 ghost use Rattle.frp_history.specs.Legal.{IsLegal};
 ghost use Rattle.frp_core.specs.Small.{is_built};
-ghost use Rattle.frp_run.specs.Answers.{mode_of, mode_word, IsOutputOf, IsOutputIn, IsReportOf, IsCheckOf, IsAnswerTo, IsAnswerOf, IsFaultyAs, refusal_status, refusal_line, status_of, text_of};
+ghost use Rattle.frp_run.specs.Answers.{mode_of, mode_word, IsOutputOf, IsOutputIn, IsReportOf, IsCheckOf, IsAnswerTo, IsAnswerOf, IsFaultyAs, refusal_status, refusal_line, status_of, answer_text};
 ghost use Rattle.frp_run.specs.Runs.{IsRunnable, IsRunnableAs};
 ghost use Rattle.frp_run.specs.declared.modes.Mode.TheVariants.{Replay, Check};
 
@@ -96,7 +96,7 @@ impl Answer {
 
     /// What there is to write.
     pub fn text(&self) -> &str
-        ensures { result.now ≡ text_of self.now }
+        ensures { result.now ≡ answer_text self.now }
     {
         match self {
             Answer::Output(text) => text.as_str(),

@@ -4,6 +4,7 @@ use Rattle.std.specs.List.{list_all}
 use Rattle.std.proofs.lemmas.List.Folds.{list_all-append, list_all-map}
 use Rattle.frp_expr.specs.declared.raw.Spot.{Spot}
 use Rattle.frp_base.proofs.Booleans.{both_true, true_both, not_true}
+use Rattle.frp_base.proofs.Lists.{all_appended}
 use Rattle.frp_file.specs.declared.file.Decl.{Decl}
 use Rattle.frp_file.specs.declared.file.Decl.TheVariants as d
 use Rattle.frp_file.specs.declared.file.File.{File}
@@ -17,10 +18,6 @@ use Rattle.frp_sugar.specs.Made.{bound}
 use Rattle.frp_sugar.specs.Table.{let_items, shape_functions}
 use Rattle.frp_sugar.specs.Expanding.{form_items, form_functions, form_hidden, form_hidden_functions, body_items, body_functions, decl_decls, decl_hidden, decl_hidden_functions, graph_decls, expanded}
 use Rattle.frp_sugar.specs.Derived.{is_derived, is_core_form, are_core_items, has_no_derived_form, is_core_file}
-
--- two lists of which each passes a test
-appended : {A : Type 0} (p : A → Bool) (xs ys : List A) → list_all p xs ≡ true → list_all p ys ≡ true → list_all p (xs ++ ys) ≡ true
-appended p xs ys h k = list_all-append p xs ys ∙ true_both (list_all p xs) (list_all p ys) h k
 
 -- What stands for each is core.
 
@@ -42,7 +39,7 @@ core_items at n m _ = refl
 core_body : (n m : ℕ) (is : List Item) → are_core_items (body_items n m is) ≡ true
 core_body n m [] = refl
 core_body n m (i ∷ is) =
-    appended (λ j. is_core_form j.form) (form_items i.at n m i.form) _ (core_items i.at n m i.form) (core_body (n + form_hidden i.form) (m + form_hidden_functions i.form) is)
+    all_appended (λ j. is_core_form j.form) (form_items i.at n m i.form) _ (core_items i.at n m i.form) (core_body (n + form_hidden i.form) (m + form_hidden_functions i.form) is)
 
 core_functions : (fs : List Function) → list_all has_no_derived_form (map d.Function fs) ≡ true
 core_functions [] = refl
@@ -50,16 +47,16 @@ core_functions (f ∷ fs) = core_functions fs
 
 core_decl : (n m : ℕ) (x : Decl) → list_all has_no_derived_form (decl_decls n m x) ≡ true
 core_decl n m (d.Template t) =
-    appended has_no_derived_form (map d.Function (body_functions m t.items)) _ (core_functions (body_functions m t.items)) (true_both _ true (core_body 0 m t.items) refl)
+    all_appended has_no_derived_form (map d.Function (body_functions m t.items)) _ (core_functions (body_functions m t.items)) (true_both _ true (core_body 0 m t.items) refl)
 core_decl n m (d.Function f) = refl
 core_decl n m (d.Item i) =
-    appended has_no_derived_form (map d.Function (form_functions m i.form)) _ (core_functions (form_functions m i.form))
+    all_appended has_no_derived_form (map d.Function (form_functions m i.form)) _ (core_functions (form_functions m i.form))
     (list_all-map has_no_derived_form d.Item (form_items i.at n m i.form) ∙ core_items i.at n m i.form)
 
 core_graph : (n m : ℕ) (ds : List Decl) → list_all has_no_derived_form (graph_decls n m ds) ≡ true
 core_graph n m [] = refl
 core_graph n m (x ∷ xs) =
-    appended has_no_derived_form (decl_decls n m x) _ (core_decl n m x) (core_graph (n + decl_hidden x) (m + decl_hidden_functions x) xs)
+    all_appended has_no_derived_form (decl_decls n m x) _ (core_decl n m x) (core_graph (n + decl_hidden x) (m + decl_hidden_functions x) xs)
 
 pub expanded_core : (f : File) → is_core_file (expanded f) ≡ true
 expanded_core f = core_graph 0 0 f.graph.decls

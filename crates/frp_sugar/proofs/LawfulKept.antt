@@ -11,6 +11,7 @@ use Rattle.frp_expr.specs.declared.raw.RawForm.TheVariants as e
 use Rattle.frp_expr.specs.declared.raw.Spot.{Spot}
 use Rattle.frp_expr.specs.Raw.{is_lawful_step, is_lawful}
 use Rattle.frp_base.proofs.Booleans.{both_true, true_both}
+use Rattle.frp_base.proofs.Lists.{all_appended}
 use Rattle.frp_file.specs.declared.file.Decl.{Decl}
 use Rattle.frp_file.specs.declared.file.Decl.TheVariants as d
 use Rattle.frp_file.specs.declared.file.File.{File}
@@ -147,21 +148,17 @@ form_lawful_functions : (m : ℕ) (form : ItemForm) → are_item_parts_lawful fo
 form_lawful_functions m (Let x shape) h = shape_functions_lawful shape.at m shape.form h
 form_lawful_functions m _ h = refl
 
--- two lists of which each passes a test
-together : {A : Type 0} (test : A → Bool) (xs ys : List A) → list_all test xs ≡ true → list_all test ys ≡ true → list_all test (xs ++ ys) ≡ true
-together test xs ys h k = list_all-append test xs ys ∙ two h k
-
 body_lawful_items : (n m : ℕ) (is : List Item) → AreLawful is → AreLawful (body_items n m is)
 body_lawful_items n m [] h = refl
 body_lawful_items n m (i ∷ is) h =
     let q = both_true (item_test i) (list_all item_test is) h in
-    together item_test (form_items i.at n m i.form) _ (form_lawful_items i.at n m i.form q.0) (body_lawful_items (n + form_hidden i.form) (m + form_hidden_functions i.form) is q.1)
+    all_appended item_test (form_items i.at n m i.form) _ (form_lawful_items i.at n m i.form q.0) (body_lawful_items (n + form_hidden i.form) (m + form_hidden_functions i.form) is q.1)
 
 body_lawful_functions : (m : ℕ) (is : List Item) → AreLawful is → list_all function_test (body_functions m is) ≡ true
 body_lawful_functions m [] h = refl
 body_lawful_functions m (i ∷ is) h =
     let q = both_true (item_test i) (list_all item_test is) h in
-    together function_test (form_functions m i.form) _ (form_lawful_functions m i.form q.0) (body_lawful_functions (m + form_hidden_functions i.form) is q.1)
+    all_appended function_test (form_functions m i.form) _ (form_lawful_functions m i.form q.0) (body_lawful_functions (m + form_hidden_functions i.form) is q.1)
 
 -- ---- declarations, and files
 
@@ -174,16 +171,16 @@ items_lawful is h = list_all-map are_decl_parts_lawful d.Item is ∙ h
 decl_lawful : (n m : ℕ) (x : Decl) → are_decl_parts_lawful x ≡ true → list_all are_decl_parts_lawful (decl_decls n m x) ≡ true
 decl_lawful n m (d.Template t) h =
     let q = both_true (list_all item_test t.items) (is_lawful t.give.e) h in
-    together are_decl_parts_lawful (map d.Function (body_functions m t.items)) _ (functions_lawful _ (body_lawful_functions m t.items q.0)) (two (two (body_lawful_items 0 m t.items q.0) q.1) refl)
+    all_appended are_decl_parts_lawful (map d.Function (body_functions m t.items)) _ (functions_lawful _ (body_lawful_functions m t.items q.0)) (two (two (body_lawful_items 0 m t.items q.0) q.1) refl)
 decl_lawful n m (d.Function f) h = two h refl
 decl_lawful n m (d.Item i) h =
-    together are_decl_parts_lawful (map d.Function (form_functions m i.form)) _ (functions_lawful _ (form_lawful_functions m i.form h)) (items_lawful (form_items i.at n m i.form) (form_lawful_items i.at n m i.form h))
+    all_appended are_decl_parts_lawful (map d.Function (form_functions m i.form)) _ (functions_lawful _ (form_lawful_functions m i.form h)) (items_lawful (form_items i.at n m i.form) (form_lawful_items i.at n m i.form h))
 
 decls_lawful : (n m : ℕ) (ds : List Decl) → list_all are_decl_parts_lawful ds ≡ true → list_all are_decl_parts_lawful (graph_decls n m ds) ≡ true
 decls_lawful n m [] h = refl
 decls_lawful n m (x ∷ xs) h =
     let q = both_true (are_decl_parts_lawful x) (list_all are_decl_parts_lawful xs) h in
-    together are_decl_parts_lawful (decl_decls n m x) _ (decl_lawful n m x q.0) (decls_lawful (n + decl_hidden x) (m + decl_hidden_functions x) xs q.1)
+    all_appended are_decl_parts_lawful (decl_decls n m x) _ (decl_lawful n m x q.0) (decls_lawful (n + decl_hidden x) (m + decl_hidden_functions x) xs q.1)
 
 pub lawful_kept : (f : File) → has_lawful_parts f ≡ true → has_lawful_parts (expanded f) ≡ true
 lawful_kept f h =

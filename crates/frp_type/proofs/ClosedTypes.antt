@@ -18,7 +18,7 @@ use Rattle.frp_expr.specs.declared.expr.Expr.TheVariants as x
 use Rattle.frp_expr.specs.declared.expr.Expr.TheFolds.{fold-roll-Expr, map-Expr, ind-Expr}
 use Rattle.frp_expr.proofs.TypeLemmas.{bind_some}
 use Rattle.frp_graph.specs.TypedProg.{types_at}
-use Rattle.frp_type.specs.Closed.{renumber_step, renumbered, position, kept_number, used_of, closed}
+use Rattle.frp_type.specs.Closed.{renumber_step, renumbered_vars, position, kept_number, used_of, closed}
 use Rattle.frp_type.proofs.Noted.{In, in_filter, note_has, keeps, each_keeps, noted_layer}
 
 -- Items of a list by their places.
@@ -83,7 +83,7 @@ module _ (sigs : List Sig) (ts us : List Ty) (kept : List ℕ) (n : ℕ) (at : t
   number = kept_number (length ts) kept
 
   abbrev anew : Expr → Expr
-  anew = renumbered number
+  anew = renumbered_vars number
 
   abbrev kind : Expr → Kind
   kind = type_in sigs

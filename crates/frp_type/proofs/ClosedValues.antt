@@ -18,7 +18,7 @@ use Rattle.frp_expr.specs.declared.expr.Expr.TheOpen.{Expr-F}
 use Rattle.frp_expr.specs.declared.expr.Expr.TheOpen as e
 use Rattle.frp_expr.specs.declared.expr.Expr.TheVariants as x
 use Rattle.frp_expr.specs.declared.expr.Expr.TheFolds.{fold-roll-Expr, map-Expr, ind-Expr}
-use Rattle.frp_type.specs.Closed.{renumber_step, renumbered, position, kept_number, used_of, closed}
+use Rattle.frp_type.specs.Closed.{renumber_step, renumbered_vars, position, kept_number, used_of, closed}
 use Rattle.frp_type.proofs.Noted.{In, in_filter, note_has, keeps, each_keeps, noted_layer}
 
 -- Values of a list by their places.
@@ -54,7 +54,7 @@ module _ (vs : List Val) (kept : List ℕ) (n : ℕ) (within : (i : ℕ) → nat
   number = kept_number (length vs) kept
 
   abbrev anew : Expr → Expr
-  anew = renumbered number
+  anew = renumbered_vars number
 
   -- each value that is noted is kept
   abbrev Kept : List ℕ → Type 0

@@ -18,12 +18,13 @@ use Rattle.frp_type.specs.Core.{is_core}
 use Rattle.frp_type.specs.Known.{Known, nothing, shape_typing, all_declared}
 use Rattle.frp_type.specs.Faults.{all_tied, listened, scripted, checked}
 use Rattle.frp_type.specs.Meaning.{known_with, known_after, each, or_int, line_shape, item_lines, lines_of, ties_of, prog_of, labels_from, references_from, node_named, sent_over, typed_by, meaning}
-use Rattle.frp_type.specs.States.{known_of, Holds, tie_shape, tie_line, prog_in, IsTypedFile}
+use Rattle.frp_type.specs.States.{known_of, StandsFor, tie_shape, tie_line, prog_in, IsTypedFile}
 use Rattle.frp_type.specs.declared.state.State.{State}
 use Rattle.frp_type.specs.declared.typed.Label.{Label}
 use Rattle.frp_type.specs.declared.typed.Typed.{Typed}
-use Rattle.frp_type.proofs.TypedShapes.{ok_same}
+use Rattle.frp_type.proofs.TypedShapes.{}
 use Rattle.frp_type.proofs.TypedFiles.{step, after_is, faultless}
+use Rattle.frp_type.proofs.WrittenTypes.{ok_same}
 
 -- a shape's line, tied, is the line where these are the ties
 shape_tied : (ties : List (ℕ × ℕ)) (k : Known) (sh : ShapeForm) → line_shape ties k sh ≡ tie_shape ties (line_shape [] k sh)
@@ -51,13 +52,13 @@ known_is [] k m e = ok_same e
 known_is (x ∷ ds) k m e = let s = step k m x ds e in ap (λ (n : Known). known_after n ds) (after_is k s.0 x s.1) ∙ known_is ds s.0 m s.2
 
 -- the program of the state
-prog_is : (ds : List Decl) (s : State) → Holds s ds → prog_in s ≡ prog_of ds
+prog_is : (ds : List Decl) (s : State) → StandsFor s ds → prog_in s ≡ prog_of ds
 prog_is ds s h =
     let lines : map (tie_line s.ties) s.lines ≡ each (lines_of (each ties_of nothing ds)) nothing ds =
     ap (λ ts. map (tie_line ts) s.lines) h.ties ∙ ap (map (tie_line (each ties_of nothing ds))) h.lines ∙ sym (all_lines_tied (each ties_of nothing ds) nothing ds) in
     (λ i. record { codes = h.codes i; funs = h.funs i; templates = []; body = record { param = None; kept = []; lines = lines i; give = None }; joins = [] })
 
-pub finished : (f : File) (s : State) (prog : Prog) (labels : List Label) (listens : List Name) (scripts : List (List Fact)) → is_core f ≡ true → Holds s f.graph.decls
+pub finished : (f : File) (s : State) (prog : Prog) (labels : List Label) (listens : List Name) (scripts : List (List Fact)) → is_core f ≡ true → StandsFor s f.graph.decls
     → all_declared nothing f.graph.decls ≡ Ok (known_of s) → all_tied s.loops ≡ Ok tt → listened (known_of s) f.listens ≡ Ok tt → scripted (known_of s) f.senders ≡ Ok tt
     → prog ≡ prog_in s → labels ≡ labels_from 0 s.scope.names → listens ≡ map (λ l. node_named (known_of s) l.name) f.listens
     → scripts ≡ map (λ x. map (sent_over (known_of s) (references_from 0 s.scope.names)) x.sends) f.senders

@@ -11,7 +11,7 @@ use Rattle.frp_expr.specs.Scope.{Named, names_of, fun_names}
 use Rattle.frp_expr.specs.TypeOf.{IsTypingOf}
 use Rattle.frp_expr.specs.Uses.{uses}
 use Rattle.frp_graph.specs.declared.prog.LineLam.{LineLam}
-use Rattle.frp_type.specs.Closed.{kept_number, renumbered, used_of}
+use Rattle.frp_type.specs.Closed.{kept_number, renumbered_vars, used_of}
 use Rattle.frp_type.specs.Known.{Known}
 use Rattle.frp_type.specs.Meaning.{body_expr, code, line_lam}
 use Rattle.frp_type.specs.States.{here}
@@ -28,8 +28,8 @@ module _ (scope : Scope) (codes : List Expr) (vs : List Named) (e : Raw) (t : Ty
     lengths : length (scope.names ++ vs) ≡ length scope.names + length (names_of vs)
     lengths = length-append scope.names vs ∙ ap (λ n. length scope.names + n) (sym (length-map vs (λ (n : Named). n.0)))
 
-  closing : renumbered (kept_number (length scope.names) (filter (λ i. nat_lt i (length scope.names)) t.used)) t.expr ≡ code k (names_of vs) e
-  closing = ap (λ us. renumbered (kept_number (length scope.names) us) t.expr) kept ∙ ap (renumbered (kept_number (length scope.names) (used_of (length scope.names) (length (names_of vs)) (body_expr k (names_of vs) e)))) stands
+  closing : renumbered_vars (kept_number (length scope.names) (filter (λ i. nat_lt i (length scope.names)) t.used)) t.expr ≡ code k (names_of vs) e
+  closing = ap (λ us. renumbered_vars (kept_number (length scope.names) us) t.expr) kept ∙ ap (renumbered_vars (kept_number (length scope.names) (used_of (length scope.names) (length (names_of vs)) (body_expr k (names_of vs) e)))) stands
 
 -- what is made of the typing, where the names and the typing are called otherwise
 module _ (scope : Scope) (codes : List Expr) (vs : List Named) (e : Raw) (t : Typing) (is : IsTypingOf (record { names = scope.names ++ vs; funs = scope.funs }) e t)
@@ -39,7 +39,7 @@ module _ (scope : Scope) (codes : List Expr) (vs : List Named) (e : Raw) (t : Ty
       ∙ ap (λ (u : Typing). record { code = length codes; kept = filter (λ i. nat_lt i (length scope.names)) u.used }) known
       ∙ ap (λ us. record { code = length codes; kept = us }) (kept scope codes vs e t is)
 
-  pub code_made : (new : List Expr) → new ≡ codes ++ renumbered (kept_number (length ns) (filter (λ i. nat_lt i (length ns)) u.used)) u.expr ∷ [] → new ≡ codes ++ code (here scope codes) (names_of vs) e ∷ []
-  code_made new h = h ∙ ap (λ (ns : List Named). codes ++ renumbered (kept_number (length ns) (filter (λ i. nat_lt i (length ns)) u.used)) u.expr ∷ []) same
-      ∙ ap (λ (u : Typing). codes ++ renumbered (kept_number (length scope.names) (filter (λ i. nat_lt i (length scope.names)) u.used)) u.expr ∷ []) known
+  pub code_made : (new : List Expr) → new ≡ codes ++ renumbered_vars (kept_number (length ns) (filter (λ i. nat_lt i (length ns)) u.used)) u.expr ∷ [] → new ≡ codes ++ code (here scope codes) (names_of vs) e ∷ []
+  code_made new h = h ∙ ap (λ (ns : List Named). codes ++ renumbered_vars (kept_number (length ns) (filter (λ i. nat_lt i (length ns)) u.used)) u.expr ∷ []) same
+      ∙ ap (λ (u : Typing). codes ++ renumbered_vars (kept_number (length scope.names) (filter (λ i. nat_lt i (length scope.names)) u.used)) u.expr ∷ []) known
       ∙ ap (λ c. codes ++ c ∷ []) (closing scope codes vs e t is)

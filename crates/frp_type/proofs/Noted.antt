@@ -9,20 +9,17 @@ use Rattle.frp_expr.specs.declared.expr.Expr.{Expr, roll-Expr}
 use Rattle.frp_expr.specs.declared.expr.Expr.TheOpen.{Expr-F}
 use Rattle.frp_expr.specs.declared.expr.Expr.TheOpen as e
 use Rattle.frp_expr.specs.declared.expr.Expr.TheFolds.{fold-roll-Expr, map-Expr, ind-Expr}
+use Rattle.frp_base.proofs.Booleans.{or_more}
 
 -- a number is among these
 abbrev pub In : ℕ → List ℕ → Type 0
 In i is = list_any (λ j. j == i) is ≡ true
 
-pub right_or : (a b : Bool) → b ≡ true → a || b ≡ true
-right_or true b h = refl
-right_or false b h = h
-
 pub in_front : (i : ℕ) (is js : List ℕ) → In i is → In i (is ++ js)
 in_front i is js h = list_any-append (λ j. j == i) is js ∙ ap (λ b. b || list_any (λ j. j == i) js) h
 
 pub in_end : (i : ℕ) (is js : List ℕ) → In i js → In i (is ++ js)
-in_end i is js h = list_any-append (λ j. j == i) is js ∙ right_or (list_any (λ j. j == i) is) _ h
+in_end i is js h = list_any-append (λ j. j == i) is js ∙ or_more (list_any (λ j. j == i) is) _ h
 
 pub in_itself : (i : ℕ) → In i (i ∷ [])
 in_itself i = ap (λ b. b || false) ((unsigned_Decides i i).1 refl)
@@ -43,7 +40,7 @@ note_has n used i h = by_tests (nat_lt i n) (list_any (λ j. j == i) used) h ref
 -- what passes a test is still there among all that pass it
 in_more : (test : ℕ → Bool) (i k : ℕ) (is : List ℕ) → test i ≡ true → In i (k ∷ is) → (In i is → In i (filter test is)) → (b c : Bool) → test k ≡ b → (k == i) ≡ c → In i (if b then k ∷ filter test is else filter test is)
 in_more test i k is p h m true true d q = ap (λ c. c || list_any (λ j. j == i) (filter test is)) q
-in_more test i k is p h m true false d q = right_or (k == i) _ (m (subst (λ c. c || list_any (λ j. j == i) is ≡ true) q h))
+in_more test i k is p h m true false d q = or_more (k == i) _ (m (subst (λ c. c || list_any (λ j. j == i) is ≡ true) q h))
 in_more test i k is p h m false true d q = let r : k ≡ i = (unsigned_Decides k i).0 q in absurd cc
 in_more test i k is p h m false false d q = m (subst (λ c. c || list_any (λ j. j == i) is ≡ true) q h)
 

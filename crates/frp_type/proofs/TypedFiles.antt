@@ -5,12 +5,14 @@ use Rattle.std.specs.Result.{result_ok}
 use Rattle.std.specs.List.{list_all, AllByRecursion}
 use Rattle.std.proofs.lemmas.Bool.{cases_Bool}
 use Rattle.std.proofs.lemmas.Bool.Decides.{nat_tests}
-use Rattle.std.proofs.lemmas.List.{map-append, length-map, length-append}
+use Rattle.std.proofs.lemmas.List.{map-append, length-map, length-append, append-nil}
 use Rattle.std.proofs.lemmas.List.Folds.{list_all-append}
 use Rattle.frp_base.specs.declared.text.Text.{Text}
 use Rattle.frp_base.specs.declared.ty.Ty.{Ty}
 use Rattle.frp_base.specs.declared.ty.Ty.TheVariants as t
 use Rattle.frp_base.proofs.TyLemmas.{ty_decides}
+use Rattle.frp_base.proofs.Booleans.{both_true, true_both}
+use Rattle.frp_base.proofs.Lists.{get_next, get_more}
 use Rattle.frp_expr.specs.declared.expr.Expr.{Expr}
 use Rattle.frp_expr.specs.declared.fault.TypeKind.TheVariants as kind
 use Rattle.frp_expr.specs.declared.raw.Raw.{Raw}
@@ -21,6 +23,7 @@ use Rattle.frp_expr.specs.Scope.{Named, Fun, names_of, types_of, fun_names, sigs
 use Rattle.frp_expr.specs.Types.{is_type, given}
 use Rattle.frp_expr.specs.Typing.{Sig, type_in, has}
 use Rattle.frp_expr.proofs.TypingAgrees.{agrees}
+use Rattle.frp_expr.proofs.TypeLemmas.{some_has}
 use Rattle.frp_file.specs.declared.file.Decl.{Decl}
 use Rattle.frp_file.specs.declared.file.Decl.TheVariants as d
 use Rattle.frp_file.specs.declared.file.File.{File}
@@ -36,39 +39,16 @@ use Rattle.frp_graph.specs.declared.prog.Line3.{Line3}
 use Rattle.frp_graph.specs.declared.prog.Line3.TheVariants.{Node}
 use Rattle.frp_graph.specs.declared.prog.LineShape.{LineShape}
 use Rattle.frp_graph.specs.declared.prog.LineShape.TheVariants as l
-use Rattle.frp_graph.specs.TypedProg.{IsTypedProg, is_node_line, is_tied, are_typed_lines, shape_type, sig_of, are_typed_funs, all_types}
+use Rattle.frp_graph.specs.TypedProg.{IsTypedProg, is_node_line, has_tied_type, are_typed_lines, shape_type, sig_of, are_typed_funs, all_types}
+use Rattle.frp_graph.proofs.TypedValues.{stream_is}
 use Rattle.frp_type.specs.Core.{is_core, is_core_decl, is_core_item, is_core_sender}
-use Rattle.frp_type.specs.Known.{Known, nothing, unless_taken, shape_typing, lam_in, with_name, with_node, tying, loop_of, target_of, named, type_at, same_type, fault_if, item_known, params, fun_known, declared, all_declared}
+use Rattle.frp_type.specs.Known.{Known, nothing, unless_taken, shape_typing, lam_in, with_name, with_let, tying, loop_of, target_of, named, type_at, same_type, fault_if, item_known, params, fun_known, declared, all_declared}
 use Rattle.frp_type.specs.Faults.{checked, all_tied, listened, scripted}
 use Rattle.frp_type.specs.Meaning.{known_with, each, or_int, code, tied_to, line_shape, item_lines, lines_of, code_in, item_codes, codes_of, tie_in, item_ties, ties_of, fun_def, funs_of, prog_of, meaning}
-use Rattle.frp_type.proofs.WrittenTypes.{is_stream_type, stream_is_type, written_is_type}
-use Rattle.frp_type.proofs.TypedShapes.{bind_ok, ok_same, typed_shape}
+use Rattle.frp_type.proofs.WrittenTypes.{stream_is_type, written_is_type, bind_ok, ok_same}
+use Rattle.frp_type.proofs.TypedShapes.{typed_shape}
 
 -- Lists.
-
-pub get_more : {A : Type 0} (xs ys : List A) (i : ℕ) (x : A) → slice_get xs i ≡ Some x → slice_get (xs ++ ys) i ≡ Some x
-get_more [] ys zero x e = absurd cc
-get_more [] ys (suc i) x e = absurd cc
-get_more (y ∷ xs) ys zero x e = e
-get_more (y ∷ xs) ys (suc i) x e = get_more xs ys i x e
-
-get_here : {A : Type 0} (xs : List A) (x : A) (ys : List A) → slice_get (xs ++ x ∷ ys) (length xs) ≡ Some x
-get_here [] x ys = refl
-get_here (y ∷ xs) x ys = get_here xs x ys
-
-append_nil : {A : Type 0} (xs : List A) → xs ++ [] ≡ xs
-append_nil [] = refl
-append_nil (x ∷ xs) = ap (λ ys. x ∷ ys) (append_nil xs)
-
-and_parts : (a b : Bool) → a && b ≡ true → (a ≡ true) × (b ≡ true)
-and_parts true b h = (refl, h)
-and_parts false b h = absurd cc
-
-both : (a b : Bool) → a ≡ true → b ≡ true → a && b ≡ true
-both a b h g = ap (λ c. c && b) h ∙ g
-
-has_it : (x : Ty) (o : Option Ty) → o ≡ Some x → has x o ≡ true
-has_it x o e = ap (has x) e ∙ (ty_decides x x).1 refl
 
 -- Ties.
 
@@ -88,9 +68,9 @@ tied_ok all (ij ∷ more) p x e g = elim (cases_Bool (ij.0 == p)) [
 ]
 
 tied_line : (sigs : List Sig) (codes : List Expr) (all : List Ty) (ties : List (ℕ × ℕ)) (k : Known) (sh : ShapeForm) (x : Ty) → slice_get all (length k.names) ≡ Some x → GoodTies all ties
-    → is_tied sigs codes [] all x (line_shape ties k sh) ≡ true
-tied_line sigs codes all ties k (Loops ty) x e g = has_it x _ (tied_ok all ties (length k.names) x e g)
-tied_line sigs codes all ties k (Loopc ty) x e g = has_it x _ (tied_ok all ties (length k.names) x e g)
+    → has_tied_type sigs codes [] all x (line_shape ties k sh) ≡ true
+tied_line sigs codes all ties k (Loops ty) x e g = some_has x _ (tied_ok all ties (length k.names) x e g)
+tied_line sigs codes all ties k (Loopc ty) x e g = some_has x _ (tied_ok all ties (length k.names) x e g)
 tied_line sigs codes all ties k _ x e g = refl
 
 -- What a declaration without a fault adds.
@@ -117,10 +97,10 @@ sink_ok k m n ty e =
     let q = bind_ok (type_written ty) (λ a. Ok (with_name k n.text (t.Stream a))) m p.2 in
     (q.0, q.1, ok_same q.2)
 
-pub let_ok : (k m : Known) (n : Spot) (shape : RawShape) → item_known k (Let n shape) ≡ Ok m → (a : Ty) × (shape_typing k.funs k.names shape.form ≡ Ok a) × (with_node k n shape.form a ≡ m)
+pub let_ok : (k m : Known) (n : Spot) (shape : RawShape) → item_known k (Let n shape) ≡ Ok m → (a : Ty) × (shape_typing k.funs k.names shape.form ≡ Ok a) × (with_let k n shape.form a ≡ m)
 let_ok k m n shape e =
-    let p = bind_ok (unless_taken (names_of k.names) n) (λ _. shape_typing k.funs k.names shape.form >>= λ a. Ok (with_node k n shape.form a)) m e in
-    let q = bind_ok (shape_typing k.funs k.names shape.form) (λ a. Ok (with_node k n shape.form a)) m p.2 in
+    let p = bind_ok (unless_taken (names_of k.names) n) (λ _. shape_typing k.funs k.names shape.form >>= λ a. Ok (with_let k n shape.form a)) m e in
+    let q = bind_ok (shape_typing k.funs k.names shape.form) (λ a. Ok (with_let k n shape.form a)) m p.2 in
     (q.0, q.1, ok_same q.2)
 
 abbrev untie : Known → ℕ → Known
@@ -148,7 +128,7 @@ params_types ns (p ∷ ps) ms h e =
     let q = bind_ok (unless_taken (names_of ns) p.name) (λ _. type_written p.ty >>= λ a. params (ns ++ (p.name.text, a) ∷ []) ps) ms e in
     let r = bind_ok (type_written p.ty) (λ a. params (ns ++ (p.name.text, a) ∷ []) ps) ms q.2 in
     let more : list_all is_type (types_of (ns ++ (p.name.text, r.0) ∷ [])) ≡ true =
-    ap (list_all is_type) (with_type ns p.name.text r.0) ∙ list_all-append is_type (types_of ns) (r.0 ∷ []) ∙ both _ _ h (both (is_type r.0) true (written_is_type p.ty r.0 r.1) refl) in
+    ap (list_all is_type) (with_type ns p.name.text r.0) ∙ list_all-append is_type (types_of ns) (r.0 ∷ []) ∙ true_both _ _ h (true_both (is_type r.0) true (written_is_type p.ty r.0 r.1) refl) in
     params_types (ns ++ (p.name.text, r.0) ∷ []) ps ms more r.2
 
 -- The functions: what is known of them, and their definitions.
@@ -169,11 +149,11 @@ sigs_step k n (d.Function f) e =
     ∙ ap (λ (ds : List FunDef). sigs_of k.funs ++ map sig_of ds) (sym (def_is k f p.0 p.1 p.2 p.3 p.4 p.5))
 sigs_step k n (d.Item i) e = sigs_item i.form e where
   sigs_item : (i : ItemForm) → item_known k i ≡ Ok n → sigs_of n.funs ≡ sigs_of k.funs ++ []
-  sigs_item (Sink m ty) e = let p = sink_ok k n m ty e in ap (λ (m : Known). sigs_of m.funs) (sym p.2) ∙ sym (append_nil (sigs_of k.funs))
-  sigs_item (Let m shape) e = let p = let_ok k n m shape e in ap (λ (m : Known). sigs_of m.funs) (sym p.2) ∙ sym (append_nil (sigs_of k.funs))
-  sigs_item (Tie l x) e = let p = tie_known k n l x e in ap (λ (m : Known). sigs_of m.funs) (sym p.2) ∙ sym (append_nil (sigs_of k.funs))
-  sigs_item _ e = ap (λ (m : Known). sigs_of m.funs) (sym (ok_same e)) ∙ sym (append_nil (sigs_of k.funs))
-sigs_step k n (d.Template x) e = ap (λ (m : Known). sigs_of m.funs) (sym (ok_same e)) ∙ sym (append_nil (sigs_of k.funs))
+  sigs_item (Sink m ty) e = let p = sink_ok k n m ty e in ap (λ (m : Known). sigs_of m.funs) (sym p.2) ∙ sym (append-nil (sigs_of k.funs))
+  sigs_item (Let m shape) e = let p = let_ok k n m shape e in ap (λ (m : Known). sigs_of m.funs) (sym p.2) ∙ sym (append-nil (sigs_of k.funs))
+  sigs_item (Tie l x) e = let p = tie_known k n l x e in ap (λ (m : Known). sigs_of m.funs) (sym p.2) ∙ sym (append-nil (sigs_of k.funs))
+  sigs_item _ e = ap (λ (m : Known). sigs_of m.funs) (sym (ok_same e)) ∙ sym (append-nil (sigs_of k.funs))
+sigs_step k n (d.Template x) e = ap (λ (m : Known). sigs_of m.funs) (sym (ok_same e)) ∙ sym (append-nil (sigs_of k.funs))
 
 -- a declaration's function before others
 funs_front : (k n : Known) (x : Decl) → declared k x ≡ Ok n → is_core_decl x ≡ true → (rest : List FunDef) → are_typed_funs (sigs_of n.funs) rest ≡ true → are_typed_funs (sigs_of k.funs) (funs_of k x ++ rest) ≡ true
@@ -186,11 +166,11 @@ funs_front k n (d.Function f) e h rest r =
     let known_with : sigs_of k.funs ++ record { kept = types_of p.0; arg = p.1; result = p.2 } ∷ [] ≡ sigs_of n.funs =
     sym (map-append (λ (g : Fun). record { kept = g.1; arg = g.2; result = g.3 }) k.funs ((f.name.text, types_of p.0, p.1, p.2) ∷ [])) ∙ ap (λ (m : Known). sigs_of m.funs) p.6 in
     ap (λ (ds : List FunDef). are_typed_funs (sigs_of k.funs) (ds ++ rest)) (def_is k f p.0 p.1 p.2 p.3 p.4 p.5)
-    ∙ both _ (are_typed_funs (sigs_of k.funs ++ record { kept = types_of p.0; arg = p.1; result = p.2 } ∷ []) rest)
-    (both (list_all is_type (types_of p.0) && is_type p.1) (has p.2 (type_in (sigs_of k.funs) (resolve (fun_names k.funs) f.e (names_of p.0 ++ f.arg.name.text ∷ [])) (types_of p.0 ++ p.1 ∷ [])))
-    (both (list_all is_type (types_of p.0)) (is_type p.1) (params_types [] f.kept p.0 refl p.3) (written_is_type f.arg.ty p.1 p.4)) (has_it p.2 _ whole))
+    ∙ true_both _ (are_typed_funs (sigs_of k.funs ++ record { kept = types_of p.0; arg = p.1; result = p.2 } ∷ []) rest)
+    (true_both (list_all is_type (types_of p.0) && is_type p.1) (has p.2 (type_in (sigs_of k.funs) (resolve (fun_names k.funs) f.e (names_of p.0 ++ f.arg.name.text ∷ [])) (types_of p.0 ++ p.1 ∷ [])))
+    (true_both (list_all is_type (types_of p.0)) (is_type p.1) (params_types [] f.kept p.0 refl p.3) (written_is_type f.arg.ty p.1 p.4)) (some_has p.2 _ whole))
     (ap (λ (ss : List Sig). are_typed_funs ss rest) known_with ∙ r)
-funs_front k n (d.Item i) e h rest r = ap (λ (ss : List Sig). are_typed_funs ss rest) (sym (sigs_step k n (d.Item i) e ∙ append_nil (sigs_of k.funs))) ∙ r
+funs_front k n (d.Item i) e h rest r = ap (λ (ss : List Sig). are_typed_funs ss rest) (sym (sigs_step k n (d.Item i) e ∙ append-nil (sigs_of k.funs))) ∙ r
 funs_front k n (d.Template x) e h rest r = absurd cc
 
 -- each function's expression has its type
@@ -198,7 +178,7 @@ funs_typed : (ds : List Decl) (k m : Known) → all_declared k ds ≡ Ok m → l
 funs_typed [] k m e h = refl
 funs_typed (x ∷ ds) k m e h =
     let s = step k m x ds e in
-    let g = and_parts (is_core_decl x) (list_all is_core_decl ds) h in
+    let g = both_true (is_core_decl x) (list_all is_core_decl ds) h in
     let rest : are_typed_funs (sigs_of s.0.funs) (each funs_of (known_with k x) ds) ≡ true = subst (λ (n : Known). are_typed_funs (sigs_of s.0.funs) (each funs_of n ds) ≡ true) (sym (after_is k s.0 x s.1)) (funs_typed ds s.0 m s.2 g.1) in
     funs_front k s.0 x s.1 g.0 (each funs_of (known_with k x) ds) rest
 
@@ -221,17 +201,17 @@ codes_step k n (d.Template x) e = ap (λ (m : Known). m.codes) (sym (ok_same e))
 
 -- the types of a body's names after a declaration, and after several
 names_step : (k n : Known) (x : Decl) → declared k x ≡ Ok n → (us : List Ty) × (types_of n.names ≡ types_of k.names ++ us)
-names_step k n (d.Function f) e = let p = fun_ok k n f e in ([], ap (λ (m : Known). types_of m.names) (sym p.6) ∙ sym (append_nil (types_of k.names)))
+names_step k n (d.Function f) e = let p = fun_ok k n f e in ([], ap (λ (m : Known). types_of m.names) (sym p.6) ∙ sym (append-nil (types_of k.names)))
 names_step k n (d.Item i) e = names_item i.form e where
   names_item : (i : ItemForm) → item_known k i ≡ Ok n → (us : List Ty) × (types_of n.names ≡ types_of k.names ++ us)
   names_item (Sink m ty) e = let p = sink_ok k n m ty e in (t.Stream p.0 ∷ [], ap (λ (m : Known). types_of m.names) (sym p.2) ∙ with_type k.names m.text (t.Stream p.0))
   names_item (Let m shape) e = let p = let_ok k n m shape e in (p.0 ∷ [], ap (λ (m : Known). types_of m.names) (sym p.2) ∙ with_type k.names m.text p.0)
-  names_item (Tie l x) e = let p = tie_known k n l x e in ([], ap (λ (m : Known). types_of m.names) (sym p.2) ∙ sym (append_nil (types_of k.names)))
-  names_item _ e = ([], ap (λ (m : Known). types_of m.names) (sym (ok_same e)) ∙ sym (append_nil (types_of k.names)))
-names_step k n (d.Template x) e = ([], ap (λ (m : Known). types_of m.names) (sym (ok_same e)) ∙ sym (append_nil (types_of k.names)))
+  names_item (Tie l x) e = let p = tie_known k n l x e in ([], ap (λ (m : Known). types_of m.names) (sym p.2) ∙ sym (append-nil (types_of k.names)))
+  names_item _ e = ([], ap (λ (m : Known). types_of m.names) (sym (ok_same e)) ∙ sym (append-nil (types_of k.names)))
+names_step k n (d.Template x) e = ([], ap (λ (m : Known). types_of m.names) (sym (ok_same e)) ∙ sym (append-nil (types_of k.names)))
 
 names_grow : (ds : List Decl) (k m : Known) → all_declared k ds ≡ Ok m → (us : List Ty) × (types_of m.names ≡ types_of k.names ++ us)
-names_grow [] k m e = ([], ap (λ (m : Known). types_of m.names) (sym (ok_same e)) ∙ sym (append_nil (types_of k.names)))
+names_grow [] k m e = ([], ap (λ (m : Known). types_of m.names) (sym (ok_same e)) ∙ sym (append-nil (types_of k.names)))
 names_grow (x ∷ ds) k m e =
     let s = step k m x ds e in
     let a = names_step k s.0 x s.1 in
@@ -299,10 +279,10 @@ module _ (sigs : List Sig) (codes : List Expr) (ties : List (ℕ × ℕ)) where
     ts = types_of k.names
 
     -- a line of this type and shape
-    one : (y : Ty) (sh : LineShape) (made : List ℕ) → shape_type sigs codes [] ts y sh ≡ Some y → is_tied sigs codes [] all y sh ≡ true → types_of n.names ≡ ts ++ y ∷ []
+    one : (y : Ty) (sh : LineShape) (made : List ℕ) → shape_type sigs codes [] ts y sh ≡ Some y → has_tied_type sigs codes [] all y sh ≡ true → types_of n.names ≡ ts ++ y ∷ []
         → are_typed_lines sigs codes [] all ts made (Node y sh ∷ rest) ≡ true
     one y sh made e w q =
-        both _ _ (both _ _ (has_it y _ e) w)
+        true_both _ _ (true_both _ _ (some_has y _ e) w)
         (ap (λ us. are_typed_lines sigs codes [] all us (made ++ length ts ∷ []) rest) (sym q) ∙ next (made ++ length ts ∷ []))
 
     none : (made : List ℕ) → types_of n.names ≡ ts → are_typed_lines sigs codes [] all ts made rest ≡ true
@@ -311,7 +291,7 @@ module _ (sigs : List Sig) (codes : List Expr) (ties : List (ℕ × ℕ)) where
     has_code : (sh : ShapeForm) → codes_of k x ≡ code_in k (lam_in sh) → (f : List Text × Raw) → lam_in sh ≡ Some f → slice_get codes k.codes ≡ Some (code k f.0 f.1)
     has_code sh q f h =
         let w : codes ≡ pre ++ (code k f.0 f.1 ∷ tail) = c ∙ ap (λ cs. pre ++ (cs ++ tail)) (q ∙ ap (code_in k) h) in
-        ap (slice_get codes) (sym count) ∙ ap (λ cs. slice_get cs (length pre)) w ∙ get_here pre (code k f.0 f.1) tail
+        ap (slice_get codes) (sym count) ∙ ap (λ cs. slice_get cs (length pre)) w ∙ get_next pre (code k f.0 f.1) tail
 
     pub lines_front : is_core_decl x ≡ true → (made : List ℕ) → are_typed_lines sigs codes [] all ts made (lines_of ties k x ++ rest) ≡ true
     lines_front h made = front x refl h where
@@ -320,7 +300,7 @@ module _ (sigs : List Sig) (codes : List Expr) (ties : List (ℕ × ℕ)) where
           let p = sink_ok k n v ty e in
           ap (λ a. are_typed_lines sigs codes [] all ts made (Node (t.Stream a) l.Sink ∷ rest)) (or_int_is (type_written ty) p.0 p.1)
           ∙ one (t.Stream p.0) l.Sink made
-          (ap (λ b. given (b && is_type (t.Stream p.0)) (t.Stream p.0)) (is_stream_type p.0) ∙ ap (λ b. given b (t.Stream p.0)) (stream_is_type p.0 (written_is_type ty p.0 p.1)))
+          (ap (λ b. given (b && is_type (t.Stream p.0)) (t.Stream p.0)) (stream_is p.0) ∙ ap (λ b. given b (t.Stream p.0)) (stream_is_type p.0 (written_is_type ty p.0 p.1)))
           refl (ap (λ (m : Known). types_of m.names) (sym p.2) ∙ with_type k.names v.text (t.Stream p.0))
       front_item (Let v shape) w e h =
           let p = let_ok k n v shape e in
@@ -328,7 +308,7 @@ module _ (sigs : List Sig) (codes : List Expr) (ties : List (ℕ × ℕ)) where
           let typed : shape_type sigs codes [] ts p.0 (line_shape ties k shape.form) ≡ Some p.0 =
           ap (λ (ss : List Sig). shape_type ss codes [] ts p.0 (line_shape ties k shape.form)) s ∙ typed_shape k more codes ties shape.form p.0 h (has_code shape.form w) p.1 in
           let found : slice_get (types_of n.names) (length k.names) ≡ Some p.0 =
-          ap (λ us. slice_get us (length k.names)) names ∙ ap (slice_get (ts ++ p.0 ∷ [])) (sym (length-map k.names (λ (n : Named). n.1))) ∙ get_here ts p.0 [] in
+          ap (λ us. slice_get us (length k.names)) names ∙ ap (slice_get (ts ++ p.0 ∷ [])) (sym (length-map k.names (λ (n : Named). n.1))) ∙ get_next ts p.0 [] in
           ap (λ a. are_typed_lines sigs codes [] all ts made (Node a (line_shape ties k shape.form) ∷ rest)) (or_int_is (shape_typing k.funs k.names shape.form) p.0 p.1)
           ∙ one p.0 (line_shape ties k shape.form) made typed (tied_line sigs codes all ties k shape.form p.0 (name_stays ds n m (length k.names) p.0 later found) good) names
       front_item (Tie a b) w e h = let p = tie_known k n a b e in none made (ap (λ (m : Known). types_of m.names) (sym p.2))
@@ -345,7 +325,7 @@ module _ (sigs : List Sig) (codes : List Expr) (ties : List (ℕ × ℕ)) where
   lines_typed [] k m pre made e h s c n g = refl
   lines_typed (x ∷ ds) k m pre made e h s c n g =
       let st = step k m x ds e in
-      let q = and_parts (is_core_decl x) (list_all is_core_decl ds) h in
+      let q = both_true (is_core_decl x) (list_all is_core_decl ds) h in
       let a : known_with k x ≡ st.0 = after_is k st.0 x st.1 in
       let s2 : sigs ≡ sigs_of st.0.funs ++ map sig_of (each funs_of (known_with k x) ds) =
       s ∙ ap (λ gs. sigs_of k.funs ++ gs) (map-append sig_of (funs_of k x) (each funs_of (known_with k x) ds)) ∙ sym (append_assoc (sigs_of k.funs) (map sig_of (funs_of k x)) (map sig_of (each funs_of (known_with k x) ds)))
@@ -417,4 +397,4 @@ program_typed ds m e h = record {
 pub faultless : (f : File) (k : Known) → is_core f ≡ true → checked f ≡ Ok k → IsTypedProg (meaning f).prog
 faultless f k h e =
     let p = bind_ok (all_declared nothing f.graph.decls) (λ n. all_tied n.loops >>= λ _. listened n f.listens >>= λ _. scripted n f.senders >>= λ _. Ok n) k e in
-    program_typed f.graph.decls p.0 p.1 (and_parts (list_all is_core_decl f.graph.decls) (list_all is_core_sender f.senders) h).0
+    program_typed f.graph.decls p.0 p.1 (both_true (list_all is_core_decl f.graph.decls) (list_all is_core_sender f.senders) h).0

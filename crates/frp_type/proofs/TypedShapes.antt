@@ -10,7 +10,8 @@ use Rattle.frp_base.specs.declared.ty.Ty.{out-Ty}
 use Rattle.frp_base.specs.declared.ty.Ty.TheOpen.{Ty-F}
 use Rattle.frp_base.specs.declared.ty.Ty.TheOpen as u
 use Rattle.frp_base.specs.Ty.{ty_eq}
-use Rattle.frp_base.proofs.TyLemmas.{ty_decides}
+use Rattle.frp_base.proofs.TyLemmas.{ty_decides, ty_eq-same}
+use Rattle.frp_base.proofs.Booleans.{both_true}
 use Rattle.frp_expr.specs.declared.expr.Expr.{Expr}
 use Rattle.frp_expr.specs.declared.raw.Raw.{Raw}
 use Rattle.frp_expr.specs.Raw.{ExprOutcome, ◌>>=◌, or_fault, part_of, type_written, typing, is_lawful, resolve}
@@ -31,30 +32,16 @@ use Rattle.frp_type.specs.Core.{is_core_shape}
 use Rattle.frp_type.specs.Known.{Known, operand_seen, of_type, stream, cell, over, fun_in, fun_parts, shape_typing, lam_in}
 use Rattle.frp_type.specs.Meaning.{operand, body_expr, code, line_lam, line_shape}
 use Rattle.frp_expr.proofs.MoreFuns.{sigs_more}
+use Rattle.frp_graph.proofs.TypedValues.{stream_is}
 use Rattle.frp_type.proofs.ClosedTypes.{closed_type}
-use Rattle.frp_type.proofs.WrittenTypes.{stream_item_of, cell_item_of, is_stream_type, cell_is_node, stream_is_type, cell_is_type, written_is_type}
-
--- what a step that went well had
-pub bind_ok : {A B : Type 0} (o : ExprOutcome A) (f : A → ExprOutcome B) (x : B) → (o >>= f) ≡ Ok x → (a : A) × (o ≡ Ok a) × (f a ≡ Ok x)
-bind_ok (Ok a) f x e = (a, refl, e)
-bind_ok (Err g) f x e = absurd cc
+use Rattle.frp_type.proofs.WrittenTypes.{stream_item_of, cell_item_of, cell_is_node, stream_is_type, cell_is_type, written_is_type, bind_ok, ok_same}
 
 pub right_ok : {A : Type 0} (at : ℕ) (k : TypeKind) (o : Option A) (x : A) → or_fault at k o ≡ Ok x → o ≡ Some x
 right_ok at k (Some a) x e = cc
 right_ok at k None x e = absurd cc
 
-pub ok_same : {A : Type 0} {x y : A} → ◌≡◌ {A = ExprOutcome A} (Ok x) (Ok y) → x ≡ y
-ok_same e = cc
-
 no_ok : {A : Type 0} {f : TypeFault} {x : A} → ◌≡◌ {A = ExprOutcome A} (Err f) (Ok x) → ⊥
 no_ok e = absurd cc
-
-and_parts : (a b : Bool) → a && b ≡ true → (a ≡ true) × (b ≡ true)
-and_parts true b h = (refl, h)
-and_parts false b h = absurd cc
-
-same : (x : Ty) → ty_eq x x ≡ true
-same x = (ty_decides x x).1 refl
 
 -- steps of options, put together otherwise
 then_then : {A B C : Type 0} (o : Option A) (f : A → Option B) (g : B → Option C) → (o >>? f) >>? g ≡ o >>? (λ a. f a >>? g)
@@ -64,7 +51,7 @@ then_then None f g = refl
 result_by : (w : Ty-F Ty) (p : Ty × Ty) → fun_in w ≡ Some p → result_in p.0 w ≡ Some p.1
 result_by (u.Fun a b) p e =
     let q : (a, b) ≡ p = cc in
-    subst (λ (p : Ty × Ty). result_in p.0 (u.Fun a b) ≡ Some p.1) q (ap (λ z. given z b) (same a))
+    subst (λ (p : Ty × Ty). result_in p.0 (u.Fun a b) ≡ Some p.1) q (ap (λ z. given z b) (ty_eq-same a))
 result_by _ p e = absurd cc
 
 result_of : (f : Ty) (p : Ty × Ty) → fun_parts f ≡ Some p → result_for f p.0 ≡ Some p.1
@@ -137,7 +124,7 @@ module _ (k : Known) (more : List Sig) (codes : List Expr) where
         let p = bind_ok (type_written ty) (λ a. Ok (t.Stream a)) x e in
         let q : t.Stream p.0 ≡ x = ok_same p.2 in
         subst (λ (x : Ty). given (is_stream x && is_type x) x ≡ Some x) q
-        (ap (λ b. given (b && is_type (t.Stream p.0)) (t.Stream p.0)) (is_stream_type p.0) ∙ ap (λ b. given b (t.Stream p.0)) (stream_is_type p.0 (written_is_type ty p.0 p.1)))
+        (ap (λ b. given (b && is_type (t.Stream p.0)) (t.Stream p.0)) (stream_is p.0) ∙ ap (λ b. given b (t.Stream p.0)) (stream_is_type p.0 (written_is_type ty p.0 p.1)))
 
     loop : (x : Ty) (ty : RawTy) (f : Ty → Ty) → type_written ty >>= (λ a. Ok (f a)) ≡ Ok x → ((a : Ty) → (is_stream (f a) || is_cell (f a)) ≡ true) → ((a : Ty) → is_type a ≡ true → is_type (f a) ≡ true)
         → given ((is_stream x || is_cell x) && is_type x) x ≡ Some x
@@ -153,28 +140,28 @@ module _ (k : Known) (more : List Sig) (codes : List Expr) where
         let p = bind_ok (typing k.funs o k.names) (λ a. Ok (t.Cell a)) x e in
         ap (λ o. o >>? λ a. Some (t.Cell a)) (typed o p.0 h p.1) ∙ ap Some (ok_same p.2)
     typed_shape (Map v s b) x h c e =
-        let g = and_parts (is_lawful s) (is_lawful b) h in
+        let g = both_true (is_lawful s) (is_lawful b) h in
         let p = bind_ok (stream k.funs k.names s) (λ a. over k.funs k.names ((v.text, a) ∷ []) b >>= λ d. Ok (t.Stream d)) x e in
         let q = bind_ok (over k.funs k.names ((v.text, p.0) ∷ []) b) (λ d. Ok (t.Stream d)) x p.2 in
         ap (λ o. o >>? λ a. lam_type sigs codes [] ts (line_lam k (v.text ∷ []) b) (a ∷ []) >>? λ d. Some (t.Stream d)) (is_stream_of s p.0 g.0 p.1)
         ∙ ap (λ o. o >>? λ d. Some (t.Stream d)) (lam_ok ((v.text, p.0) ∷ []) b q.0 g.1 (c (v.text ∷ [], b) refl) q.1) ∙ ap Some (ok_same q.2)
     typed_shape (Mapc v s b) x h c e =
-        let g = and_parts (is_lawful s) (is_lawful b) h in
+        let g = both_true (is_lawful s) (is_lawful b) h in
         let p = bind_ok (cell k.funs k.names s) (λ a. over k.funs k.names ((v.text, a) ∷ []) b >>= λ d. Ok (t.Cell d)) x e in
         let q = bind_ok (over k.funs k.names ((v.text, p.0) ∷ []) b) (λ d. Ok (t.Cell d)) x p.2 in
         ap (λ o. o >>? λ a. lam_type sigs codes [] ts (line_lam k (v.text ∷ []) b) (a ∷ []) >>? λ d. Some (t.Cell d)) (is_cell_of s p.0 g.0 p.1)
         ∙ ap (λ o. o >>? λ d. Some (t.Cell d)) (lam_ok ((v.text, p.0) ∷ []) b q.0 g.1 (c (v.text ∷ [], b) refl) q.1) ∙ ap Some (ok_same q.2)
     typed_shape (Filter v s b) x h c e =
-        let g = and_parts (is_lawful s) (is_lawful b) h in
+        let g = both_true (is_lawful s) (is_lawful b) h in
         let p = bind_ok (stream k.funs k.names s) (λ a. of_type k.funs (k.names ++ (v.text, a) ∷ []) t.Bool b >>= λ _. Ok (t.Stream a)) x e in
         let q = bind_ok (of_type k.funs (k.names ++ (v.text, p.0) ∷ []) t.Bool b) (λ _. Ok (t.Stream p.0)) x p.2 in
         let r : typing k.funs b (k.names ++ (v.text, p.0) ∷ []) ≡ Ok t.Bool = over_as ((v.text, p.0) ∷ []) t.Bool b q.0 q.1 in
         ap (λ o. o >>? λ a. lam_type sigs codes [] ts (line_lam k (v.text ∷ []) b) (a ∷ []) >>? λ d. given (ty_eq d t.Bool) (t.Stream a)) (is_stream_of s p.0 g.0 p.1)
         ∙ ap (λ o. o >>? λ d. given (ty_eq d t.Bool) (t.Stream p.0)) (lam_ok ((v.text, p.0) ∷ []) b t.Bool g.1 (c (v.text ∷ [], b) refl) r)
-        ∙ ap (λ z. given z (t.Stream p.0)) (same t.Bool) ∙ ap Some (ok_same q.2)
+        ∙ ap (λ z. given z (t.Stream p.0)) (ty_eq-same t.Bool) ∙ ap Some (ok_same q.2)
     typed_shape (Merge v w r s b) x h c e =
-        let g = and_parts (is_lawful r && is_lawful s) (is_lawful b) h in
-        let i = and_parts (is_lawful r) (is_lawful s) g.0 in
+        let g = both_true (is_lawful r && is_lawful s) (is_lawful b) h in
+        let i = both_true (is_lawful r) (is_lawful s) g.0 in
         let p = bind_ok (stream k.funs k.names r) (λ a. of_type k.funs k.names (t.Stream a) s >>= λ _. of_type k.funs (k.names ++ (v.text, a) ∷ (w.text, a) ∷ []) a b >>= λ _. Ok (t.Stream a)) x e in
         let q = bind_ok (of_type k.funs k.names (t.Stream p.0) s) (λ _. of_type k.funs (k.names ++ (v.text, p.0) ∷ (w.text, p.0) ∷ []) p.0 b >>= λ _. Ok (t.Stream p.0)) x p.2 in
         let u = bind_ok (of_type k.funs (k.names ++ (v.text, p.0) ∷ (w.text, p.0) ∷ []) p.0 b) (λ _. Ok (t.Stream p.0)) x q.2 in
@@ -183,10 +170,10 @@ module _ (k : Known) (more : List Sig) (codes : List Expr) where
         ap (λ o. o >>? λ a. stream_of sigs codes [] ts (operand k s) >>? λ d. lam_type sigs codes [] ts (line_lam k (v.text ∷ w.text ∷ []) b) (a ∷ a ∷ []) >>? λ l. given (ty_eq d a && ty_eq l a) (t.Stream a)) (is_stream_of r p.0 i.0 p.1)
         ∙ ap (λ o. o >>? λ d. lam_type sigs codes [] ts (line_lam k (v.text ∷ w.text ∷ []) b) (p.0 ∷ p.0 ∷ []) >>? λ l. given (ty_eq d p.0 && ty_eq l p.0) (t.Stream p.0)) m
         ∙ ap (λ o. o >>? λ l. given (ty_eq p.0 p.0 && ty_eq l p.0) (t.Stream p.0)) (lam_ok ((v.text, p.0) ∷ (w.text, p.0) ∷ []) b p.0 g.1 (c (v.text ∷ w.text ∷ [], b) refl) z)
-        ∙ ap (λ y. given (y && y) (t.Stream p.0)) (same p.0) ∙ ap Some (ok_same u.2)
+        ∙ ap (λ y. given (y && y) (t.Stream p.0)) (ty_eq-same p.0) ∙ ap Some (ok_same u.2)
     typed_shape (Snapshot v w s d b) x h c e =
-        let g = and_parts (is_lawful s && is_lawful d) (is_lawful b) h in
-        let i = and_parts (is_lawful s) (is_lawful d) g.0 in
+        let g = both_true (is_lawful s && is_lawful d) (is_lawful b) h in
+        let i = both_true (is_lawful s) (is_lawful d) g.0 in
         let p = bind_ok (stream k.funs k.names s) (λ a. cell k.funs k.names d >>= λ y. over k.funs k.names ((v.text, a) ∷ (w.text, y) ∷ []) b >>= λ l. Ok (t.Stream l)) x e in
         let q = bind_ok (cell k.funs k.names d) (λ y. over k.funs k.names ((v.text, p.0) ∷ (w.text, y) ∷ []) b >>= λ l. Ok (t.Stream l)) x p.2 in
         let u = bind_ok (over k.funs k.names ((v.text, p.0) ∷ (w.text, q.0) ∷ []) b) (λ l. Ok (t.Stream l)) x q.2 in
@@ -201,17 +188,17 @@ module _ (k : Known) (more : List Sig) (codes : List Expr) where
         let p = bind_ok (cell k.funs k.names d) (λ a. Ok (t.Stream a)) x e in ap (λ o. o >>? λ a. Some (t.Stream a)) (is_cell_of d p.0 h p.1) ∙ ap Some (ok_same p.2)
     typed_shape (Value d) x h c e =
         let p = bind_ok (cell k.funs k.names d) (λ a. Ok (t.Stream a)) x e in ap (λ o. o >>? λ a. Some (t.Stream a)) (is_cell_of d p.0 h p.1) ∙ ap Some (ok_same p.2)
-    typed_shape (Loops ty) x h c e = loop x ty t.Stream e (λ a. ap (λ b. b || is_cell (t.Stream a)) (is_stream_type a)) stream_is_type
+    typed_shape (Loops ty) x h c e = loop x ty t.Stream e (λ a. ap (λ b. b || is_cell (t.Stream a)) (stream_is a)) stream_is_type
     typed_shape (Loopc ty) x h c e = loop x ty t.Cell e (λ a. cell_is_node a) cell_is_type
     typed_shape (Hold o s) x h c e =
-        let g = and_parts (is_lawful o) (is_lawful s) h in
+        let g = both_true (is_lawful o) (is_lawful s) h in
         let p = bind_ok (typing k.funs o k.names) (λ a. of_type k.funs k.names (t.Stream a) s >>= λ _. Ok (t.Cell a)) x e in
         let q = bind_ok (of_type k.funs k.names (t.Stream p.0) s) (λ _. Ok (t.Cell p.0)) x p.2 in
         let m : stream_of sigs codes [] ts (operand k s) ≡ Some p.0 = ap (λ o. o >>? stream_item) (of_it (t.Stream p.0) s q.0 g.1 q.1) ∙ stream_item_of p.0 in
         ap (λ w. w >>? λ a. stream_of sigs codes [] ts (operand k s) >>? λ b. given (ty_eq b a) (t.Cell a)) (typed o p.0 g.0 p.1)
-        ∙ ap (λ w. w >>? λ b. given (ty_eq b p.0) (t.Cell p.0)) m ∙ ap (λ z. given z (t.Cell p.0)) (same p.0) ∙ ap Some (ok_same q.2)
+        ∙ ap (λ w. w >>? λ b. given (ty_eq b p.0) (t.Cell p.0)) m ∙ ap (λ z. given z (t.Cell p.0)) (ty_eq-same p.0) ∙ ap Some (ok_same q.2)
     typed_shape (Apply f d) x h c e =
-        let g = and_parts (is_lawful f) (is_lawful d) h in
+        let g = both_true (is_lawful f) (is_lawful d) h in
         let p = bind_ok (operand_seen k.funs k.names (λ y. cell_item y >>? fun_parts) f) (λ r. of_type k.funs k.names (t.Cell r.0) d >>= λ _. Ok (t.Cell r.1)) x e in
         let q = bind_ok (of_type k.funs k.names (t.Cell p.0.0) d) (λ _. Ok (t.Cell p.0.1)) x p.2 in
         let s = seen_ok (λ y. cell_item y >>? fun_parts) f p.0 g.0 p.1 in

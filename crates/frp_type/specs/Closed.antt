@@ -39,8 +39,8 @@ module _ (number : ℕ → ℕ) where
   renumber_step (e.Close f es) = x.Close f es
 
   -- the expression with each variable numbered so
-  abbrev pub renumbered : Expr → Expr
-  renumbered = fold-Expr Expr renumber_step
+  abbrev pub renumbered_vars : Expr → Expr
+  renumbered_vars = fold-Expr Expr renumber_step
 
 -- the position of the first item that is this one, or the length where none is
 abbrev pub position : ℕ → List ℕ → ℕ
@@ -58,4 +58,4 @@ used_of n m e = filter (λ i. nat_lt i n) (uses (n + m) e)
 
 -- an expression over n values and m more, as one over those of the n that it uses and the m
 abbrev pub closed : ℕ → ℕ → Expr → Expr
-closed n m e = renumbered (kept_number n (used_of n m e)) e
+closed n m e = renumbered_vars (kept_number n (used_of n m e)) e

@@ -161,8 +161,8 @@ lam_in _ = None
 abbrev pub with_name : Known → Text → Ty → Known
 with_name k n x = record k { names = k.names ++ (n, x) ∷ [] }
 
-abbrev pub with_node : Known → Spot → ShapeForm → Ty → Known
-with_node k n shape x = record {
+abbrev pub with_let : Known → Spot → ShapeForm → Ty → Known
+with_let k n shape x = record {
   funs = k.funs;
   names = k.names ++ (n.text, x) ∷ [];
   codes = if is_some (lam_in shape) then k.codes + 1 else k.codes;
@@ -214,7 +214,7 @@ item_known k (Sink n ty) = do
 item_known k (Let n shape) = do
   _ ← unless_taken (names_of k.names) n
   a ← shape_typing k.funs k.names shape.form
-  Ok (with_node k n shape.form a)
+  Ok (with_let k n shape.form a)
 item_known k (Tie l x) = do
   ij ← tying k l x
   Ok (record k { loops = filter (λ m. not (m.position == ij.0)) k.loops })

@@ -57,7 +57,7 @@ pub record Adds (old new : State) (d : Decl) : Type 0 where
   pub funs : new.funs ≡ old.funs ++ funs_of (known_of old) d
 
 -- the state has what these declarations stand for, the first over nothing
-pub record Holds (s : State) (ds : List Decl) : Type 0 where
+pub record StandsFor (s : State) (ds : List Decl) : Type 0 where
   pub lines : s.lines ≡ each (lines_of []) nothing ds
   pub codes : s.codes ≡ each codes_of nothing ds
   pub ties : s.ties ≡ each ties_of nothing ds

@@ -10,7 +10,7 @@ ghost use Rattle.frp_type.specs.Faults.{all_tied, listened, all_sent, scripted, 
 ghost use Rattle.frp_type.specs.Known.{nothing, all_declared};
 ghost use Rattle.frp_type.specs.Known.{named};
 ghost use Rattle.frp_type.specs.Meaning.{node_named, sent_over, labels_from, references_from, tied_to};
-ghost use Rattle.frp_type.specs.States.{known_of, Holds, IsTypedFile, tie_line, prog_in};
+ghost use Rattle.frp_type.specs.States.{known_of, StandsFor, IsTypedFile, tie_line, prog_in};
 ghost use Rattle.frp_graph.specs.Births as births;
 ghost use Rattle.frp_expr.specs.Scope.{names_of, number_of};
 ghost use Rattle.frp_base.specs.Name.{declared_name};
@@ -64,7 +64,7 @@ fn all_declared(alloc: Global, decls: &[Decl]) -> Result<State, ExprStop>
     requires core { IsTrue (list_all is_core_decl decls.now) }
     requires few { length decls.now < 2 ^ 32 }
     ensures known { ExprGives known_of result (all_declared nothing decls.now) }
-    ensures holds { IfOk result (λ s. Holds s decls.now) }
+    ensures holds { IfOk result (λ s. StandsFor s decls.now) }
     ensures few { IfOk result (λ s. length s.scope.funs ≤ length decls.now) }
 {
     let mut state = State {

@@ -3,7 +3,7 @@
 ghost use Rattle.std.specs.Prelude.{◌≡◌, filter, nat_lt, map, IsTrue, IfOk};
 ghost use Rattle.frp_expr.specs.declared.expr.Expr.TheVariants as x;
 ghost use Rattle.frp_expr.specs.Eval.{has_one, has_two};
-ghost use Rattle.frp_type.specs.Closed.{position, kept_number, renumbered};
+ghost use Rattle.frp_type.specs.Closed.{position, kept_number, renumbered_vars};
 ghost use Rattle.frp_type.specs.Rebuilding.{is_branching, over_one, over_two, over_three};
 
 use frp_base::{Boxed, Memory, Seq, Text, Ty};
@@ -15,7 +15,7 @@ use std::alloc::Global;
 /// where more are kept than there are, counts as want of memory.
 #[cycle(closed)]
 pub fn closed(alloc: Global, e: &Expr, n: u64, kept: &[u64]) -> Result<Expr, Memory>
-    ensures { IfOk result (λ r. r ≡ renumbered (kept_number n kept.now) e.now) }
+    ensures { IfOk result (λ r. r ≡ renumbered_vars (kept_number n kept.now) e.now) }
 {
     match e {
         Expr::Int(i) => Ok(Expr::Int(*i)),
@@ -71,7 +71,7 @@ fn nil(alloc: Global, ty: &Ty) -> Result<Expr, Memory>
 /// A list of the items as they are renumbered.
 #[cycle(closed)]
 fn list(alloc: Global, es: &[Expr], n: u64, kept: &[u64]) -> Result<Expr, Memory>
-    ensures { IfOk result (λ r. r ≡ x.List (map (renumbered (kept_number n kept.now)) es.now)) }
+    ensures { IfOk result (λ r. r ≡ x.List (map (renumbered_vars (kept_number n kept.now)) es.now)) }
 {
     Ok(Expr::List(each(alloc, es, n, kept)?))
 }
@@ -79,7 +79,7 @@ fn list(alloc: Global, es: &[Expr], n: u64, kept: &[u64]) -> Result<Expr, Memory
 /// A function value whose kept values are as they are renumbered.
 #[cycle(closed)]
 fn close(alloc: Global, f: u32, es: &[Expr], n: u64, kept: &[u64]) -> Result<Expr, Memory>
-    ensures { IfOk result (λ r. r ≡ x.Close f (map (renumbered (kept_number n kept.now)) es.now)) }
+    ensures { IfOk result (λ r. r ≡ x.Close f (map (renumbered_vars (kept_number n kept.now)) es.now)) }
 {
     Ok(Expr::Close(f, each(alloc, es, n, kept)?))
 }
@@ -88,7 +88,7 @@ fn close(alloc: Global, f: u32, es: &[Expr], n: u64, kept: &[u64]) -> Result<Exp
 #[cycle(closed)]
 fn unary(alloc: Global, e: &Expr, n: u64, kept: &[u64]) -> Result<Expr, Memory>
     requires { IsTrue (has_one e.now) }
-    ensures { IfOk result (λ r. r ≡ renumbered (kept_number n kept.now) e.now) }
+    ensures { IfOk result (λ r. r ≡ renumbered_vars (kept_number n kept.now) e.now) }
 {
     match e {
         Expr::Neg(a)
@@ -108,7 +108,7 @@ fn unary(alloc: Global, e: &Expr, n: u64, kept: &[u64]) -> Result<Expr, Memory>
 #[cycle(closed)]
 fn binary(alloc: Global, e: &Expr, n: u64, kept: &[u64]) -> Result<Expr, Memory>
     requires { IsTrue (has_two e.now) }
-    ensures { IfOk result (λ r. r ≡ renumbered (kept_number n kept.now) e.now) }
+    ensures { IfOk result (λ r. r ≡ renumbered_vars (kept_number n kept.now) e.now) }
 {
     match e {
         Expr::Add(a, b)
@@ -135,7 +135,7 @@ fn binary(alloc: Global, e: &Expr, n: u64, kept: &[u64]) -> Result<Expr, Memory>
 #[cycle(closed)]
 fn branching(alloc: Global, e: &Expr, n: u64, kept: &[u64]) -> Result<Expr, Memory>
     requires { IsTrue (is_branching e.now) }
-    ensures { IfOk result (λ r. r ≡ renumbered (kept_number n kept.now) e.now) }
+    ensures { IfOk result (λ r. r ≡ renumbered_vars (kept_number n kept.now) e.now) }
 {
     match e {
         Expr::Let(a, b) => {
@@ -200,7 +200,7 @@ fn over_three(e: &Expr, a: Boxed<Expr>, b: Boxed<Expr>, c: Boxed<Expr>) -> Expr
 /// The same for a part.
 #[cycle(closed)]
 fn part(alloc: Global, e: &Expr, n: u64, kept: &[u64]) -> Result<Boxed<Expr>, Memory>
-    ensures { IfOk result (λ r. r ≡ renumbered (kept_number n kept.now) e.now) }
+    ensures { IfOk result (λ r. r ≡ renumbered_vars (kept_number n kept.now) e.now) }
 {
     let e = closed(alloc, e, n, kept)?;
     Boxed::new(alloc, e)
@@ -209,7 +209,7 @@ fn part(alloc: Global, e: &Expr, n: u64, kept: &[u64]) -> Result<Boxed<Expr>, Me
 /// The same for each of several, in order.
 #[cycle(closed)]
 fn each(alloc: Global, es: &[Expr], n: u64, kept: &[u64]) -> Result<Seq<Expr>, Memory>
-    ensures { IfOk result (λ rs. rs ≡ map (renumbered (kept_number n kept.now)) es.now) }
+    ensures { IfOk result (λ rs. rs ≡ map (renumbered_vars (kept_number n kept.now)) es.now) }
 {
     let mut all = Seq::new(alloc);
     for e in es {

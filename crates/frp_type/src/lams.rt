@@ -4,7 +4,7 @@ ghost use Rattle.std.specs.Prelude.{◌≡◌, ◌<◌, ◌^◌, ◌++◌, [], �
 ghost use Rattle.frp_expr.specs.Gives.{ExprGives};
 ghost use Rattle.frp_expr.specs.Raw.{is_lawful, typing};
 ghost use Rattle.frp_expr.specs.TypeOf.{IsTypingOf};
-ghost use Rattle.frp_type.specs.Closed.{kept_number, renumbered};
+ghost use Rattle.frp_type.specs.Closed.{kept_number, renumbered_vars};
 ghost use Rattle.frp_type.specs.Meaning.{code, line_lam};
 ghost use Rattle.frp_type.specs.States.{here};
 
@@ -68,7 +68,7 @@ fn close_over(
 ) -> Result<LineLam, Memory>
     requires { length codes.old < 2 ^ 32 }
     ensures stands { IfOk result (λ r. r ≡ record { code = length codes.old; kept = filter (λ i. nat_lt i n) typing.now.used }) }
-    ensures codes { OnOk result (codes.new ≡ codes.old ++ renumbered (kept_number n (filter (λ i. nat_lt i n) typing.now.used)) typing.now.expr ∷ []) }
+    ensures codes { OnOk result (codes.new ≡ codes.old ++ renumbered_vars (kept_number n (filter (λ i. nat_lt i n) typing.now.used)) typing.now.expr ∷ []) }
 {
     let kept = kept_below(alloc, typing.used.as_slice(), n)?;
     let code = codes.as_slice().len() as u32;

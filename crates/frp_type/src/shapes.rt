@@ -16,7 +16,7 @@ ghost use Rattle.frp_type.specs.States.{here};
 use crate::lams::{lam_one, lam_two};
 use crate::operands::{cell, operand, operand_of, same_type, stream};
 use crate::types::{
-    boxed_type, copied, held_cell_item, held_fun_parts, held_stream_item, split_item, stream_of,
+    boxed_type, copied, held_cell_item, held_fun_parts, held_stream_item, split_type, stream_type,
 };
 use frp_base::{Boxed, Seq, Ty};
 use frp_expr::{Expr, ExprStop, Raw, RawTy, Scope, Spot, TypeKind, stop};
@@ -147,7 +147,7 @@ fn merge(
     ensures scope { OnOk result (scope.new ≡ scope.old) }
 {
     let (one, a) = stream(alloc, scope, one)?;
-    let ty = stream_of(alloc, &a)?;
+    let ty = stream_type(alloc, &a)?;
     let other = operand_of(alloc, scope, other, ty.get())?;
     let left = copied(alloc, &a)?;
     let right = copied(alloc, &a)?;
@@ -202,7 +202,7 @@ fn split(alloc: Global, scope: &Scope, s: &Raw) -> Result<Line, ExprStop>
 {
     let at = s.at;
     let (s, ty) = operand(alloc, scope, s)?;
-    let a = split_item(ty.into_inner(), at)?;
+    let a = split_type(ty.into_inner(), at)?;
     Ok(Line {
         ty: Ty::Stream(a),
         shape: LineShape::Split { s },
@@ -246,7 +246,7 @@ fn hold(alloc: Global, scope: &Scope, o: &Raw, s: &Raw) -> Result<Line, ExprStop
     ensures stands { IfOk result (λ r. r.shape ≡ line_shape [] (here scope.now []) (form.Hold o.now s.now)) }
 {
     let (o, a) = operand(alloc, scope, o)?;
-    let ty = stream_of(alloc, &a)?;
+    let ty = stream_type(alloc, &a)?;
     let s = operand_of(alloc, scope, s, ty.get())?;
     Ok(Line {
         ty: Ty::Cell(a),

@@ -54,7 +54,7 @@ fn fun_parts(ty: Ty) -> Option<(Boxed<Ty>, Boxed<Ty>)>
 }
 
 /// The type of the items of the lists that a stream gives, or a fault at this place.
-pub fn split_item(ty: Ty, at: u64) -> Result<Boxed<Ty>, ExprStop>
+pub fn split_type(ty: Ty, at: u64) -> Result<Boxed<Ty>, ExprStop>
     ensures { ExprGives (λ x. x) result (or_fault at TypeKind.Type (stream_item ty >>? spec.item_type)) }
 {
     if let Some(a) = stream_item(ty) {
@@ -102,7 +102,7 @@ pub fn held_fun_parts(ty: Ty, at: u64) -> Result<(Boxed<Ty>, Boxed<Ty>), ExprSto
 }
 
 /// The type of streams of these.
-pub fn stream_of(alloc: Global, item: &Boxed<Ty>) -> Result<Boxed<Ty>, Memory>
+pub fn stream_type(alloc: Global, item: &Boxed<Ty>) -> Result<Boxed<Ty>, Memory>
     ensures { IfOk result (λ x. x ≡ t.Stream item.now) }
 {
     let item = copied(alloc, item)?;

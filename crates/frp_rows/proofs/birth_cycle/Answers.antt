@@ -6,7 +6,9 @@ use Rattle.frp_graph.specs.Trace.{Sight, sight_of}
 use Rattle.frp_graph.specs.Links.{is_linked}
 use Rattle.frp_graph.specs.Evidence.{LeadsToChain, is_below, ranks_lower}
 use Rattle.frp_rows.specs.Writing.{usual, item}
-use Rattle.frp_rows.specs.BirthCycle.{prog, evidence}
+use Rattle.frp_graph.specs.declared.shape.Shape.TheVariants as s
+use Rattle.frp_graph.specs.TypedProg.{IsTypedProg}
+use Rattle.frp_rows.specs.BirthCycle.{prog, last, missing, evidence}
 use Rattle.frp_rows.proofs.Computing.{computing, typing}
 use Rattle.frp_rows.proofs.Traces as tests
 use Rattle.frp_rows.proofs.Evidences as evidences
@@ -27,9 +29,14 @@ switch_leads = record { first = item 1; others = item 3 ∷ []; closed = simp co
 constant_leads_not : LeadsToChain (is_linked w phase.Birth) (item 2) → ⊥
 constant_leads_not l = let e = simp computing at l.leads in cc
 
+abbrev typed : IsTypedProg prog
+typed = tests.typed prog.codes prog.body.lines (simp typing) refl
+
 pub returns : goal.returns
 returns c = record {
-  typed = tests.typed prog.codes prog.body.lines (simp typing) refl;
+  typed = typed;
+  well_formed = tests.well_formed prog [] last typed (simp typing, ((simp typing, refl), (simp typing, ((refl, simp typing), tt)))) (simp typing) refl;
+  no_firsts = λ h. let e = h.first (item 1) (missing 1 (s.Loop (item 3))) refl (simp typing) in absurd cc;
   refused = inr (record {
     reached = evidences.reached prog usual [] 0 [] evidence.done evidence.last (λ past n. item_of n) refl refl refl tt refl (omega arith) (omega arith) refl refl (omega arith);
     ranked = evidences.ranked [] evidence.last evidence.ranks refl refl refl;

@@ -5,7 +5,7 @@ use Rattle.frp_graph.specs.declared.evidence.Phase.TheVariants as phase
 use Rattle.frp_graph.specs.declared.trace.Moment.{Moment}
 use Rattle.frp_graph.specs.declared.trace.Sent.{Sent}
 use Rattle.frp_graph.specs.Evidence.{IsTrueEvidence, is_below, ranks_lower}
-use Rattle.frp_rows.specs.Writing.{usual, cell_of, sent_at}
+use Rattle.frp_rows.specs.Writing.{usual, cell_val, sent_at}
 use Rattle.frp_rows.specs.CellCycle.{prog, first, trace, entries, listened, script, evidence}
 use Rattle.frp_rows.proofs.Computing.{computing, typing}
 use Rattle.frp_rows.proofs.Traces as tests
@@ -14,7 +14,7 @@ use Rattle.frp_rows.proofs.cell_cycle.Goals as goal
 
 -- the sends up to the refused one, and the moments before it
 abbrev sent : List Sent
-sent = sent_at 2 0 (cell_of 4) ∷ []
+sent = sent_at 2 0 (cell_val 4) ∷ []
 
 abbrev past : List Moment
 past = first ∷ []

@@ -10,7 +10,7 @@ use Rattle.frp_graph.specs.Trace.{sight_of}
 use Rattle.frp_graph.specs.Births.{Instance}
 use Rattle.frp_graph.specs.Links.{is_linked}
 use Rattle.frp_graph.specs.Evidence.{LeadsToChain}
-use Rattle.frp_rows.specs.Writing.{item, num, stream, sent_at}
+use Rattle.frp_rows.specs.Writing.{item, num, stream_node, sent_at}
 use Rattle.frp_rows.specs.FullRoom.{prog, small, trace, entries, listened, script, made, evidence}
 use Rattle.frp_rows.proofs.Computing.{computing, typing}
 use Rattle.frp_rows.proofs.Traces as tests
@@ -46,7 +46,7 @@ second = inr (record {
     no_missing_read = evidences.reads trace (evidence 2).last prog (sent 2) (below 2) refl;
   };
   births = evidences.whole trace (evidence 2).last prog (sent 2) (below 2) small (search (rules, computing)) refl refl refl refl;
-  cause = record { is_limit = refl; execute = stream 2 t.Int (s.Execute (item 0) 0 []); is_live = refl; makes = refl; instance = instance 2; is_instance = simp computing; unborn = refl; too_many = omega arith };
+  cause = record { is_limit = refl; execute = stream_node 2 t.Int (s.Execute (item 0) 0 []); is_live = refl; makes = refl; instance = instance 2; is_instance = simp computing; unborn = refl; too_many = omega arith };
 })
 
 -- at place 3: the node that is born leads to no chain
@@ -64,7 +64,7 @@ third = inr (record {
     no_missing_read = evidences.reads trace (evidence 3).last prog (sent 3) (below 3) refl;
   };
   births = evidences.whole trace (evidence 3).last prog (sent 3) (below 3) small (search (rules, computing)) refl refl refl refl;
-  cause = record { is_limit = refl; execute = stream 2 t.Int (s.Execute (item 0) 0 []); is_live = refl; makes = refl; instance = instance 3; is_instance = simp computing; unborn = refl; too_many = omega arith };
+  cause = record { is_limit = refl; execute = stream_node 2 t.Int (s.Execute (item 0) 0 []); is_live = refl; makes = refl; instance = instance 3; is_instance = simp computing; unborn = refl; too_many = omega arith };
 })
 
 pub returns : goal.returns

@@ -7,7 +7,7 @@ use Rattle.frp_graph.specs.declared.evidence.Phase.TheVariants as phase
 use Rattle.frp_graph.specs.declared.trace.Moment.{Moment}
 use Rattle.frp_graph.specs.declared.trace.Sent.{Sent}
 use Rattle.frp_graph.specs.Evidence.{IsTrueEvidence, is_below, ranks_lower}
-use Rattle.frp_rows.specs.Writing.{usual, cell_of, sent_at}
+use Rattle.frp_rows.specs.Writing.{usual, cell_val, sent_at}
 use Rattle.frp_rows.specs.OldInnerCell.{prog, trace, entries, listened, script, evidence}
 use Rattle.frp_rows.proofs.Computing.{computing, typing}
 use Rattle.frp_rows.proofs.Traces as tests
@@ -21,8 +21,8 @@ rank (suc m) k = slice_index (0 ∷ 0 ∷ 1 ∷ 2 ∷ 5 ∷ 6 ∷ 1 ∷ 2 ∷ 3 
 
 -- the sends up to the refused one, and the moments before it
 abbrev sent : List Sent
-sent = sent_at 3 0 (v.Pair (cell_of 9) (cell_of 1))
-    ∷ sent_at 4 0 (v.Pair (cell_of 5) (cell_of 1))
+sent = sent_at 3 0 (v.Pair (cell_val 9) (cell_val 1))
+    ∷ sent_at 4 0 (v.Pair (cell_val 5) (cell_val 1))
     ∷ []
 
 abbrev past : List Moment

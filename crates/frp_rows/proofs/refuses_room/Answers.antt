@@ -5,7 +5,7 @@ use Rattle.frp_graph.specs.declared.trace.Node.{Node}
 use Rattle.frp_graph.specs.Trace.{sight_of}
 use Rattle.frp_graph.specs.Births.{Instance, instance_in, plans_of}
 use Rattle.frp_graph.specs.FirstValues.{are_all_born}
-use Rattle.frp_rows.specs.Writing.{item, stream}
+use Rattle.frp_rows.specs.Writing.{item, stream_node}
 use Rattle.frp_rows.specs.FullRoom.{prog, trace, born_already}
 use Rattle.frp_rows.proofs.Computing.{false_true}
 use Rattle.frp_rows.proofs.Evidences.{rules_of}
@@ -27,5 +27,5 @@ returns c = record {
   hasty_fact = λ h. false_true (rules_of 1 h).settled.facts_below.1.0;
   skipped = λ h. false_true ((rules_of 1 h).births.those_below (item 2) _ refl refl refl);
   born_already = λ h. let r = (rules_of 1 h).cause in
-      not_unborn born_already.last.born (stream 1 t.Int (s.Execute (item 0) 0 [])) r.execute r.instance r.is_live r.is_instance refl r.unborn;
+      not_unborn born_already.last.born (stream_node 1 t.Int (s.Execute (item 0) 0 [])) r.execute r.instance r.is_live r.is_instance refl r.unborn;
 }

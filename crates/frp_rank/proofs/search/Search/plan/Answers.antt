@@ -1,7 +1,7 @@
 use Rattle.std.proofs.Common.{◌≡◌, true, false, length, sym, ap, ◌∙◌, subst, arith}
 use Rattle.frp_rank.specs.Laws.{renumbered}
 use Rattle.frp_rank.specs.Search.{has_visit, searched}
-use Rattle.frp_rank.specs.Plans.{written, risen_writes, lower_writes, has_high_write, Fits, AreInside}
+use Rattle.frp_rank.specs.Plans.{written, risen_writes, lower_writes, has_high_write, FitsOrder, AreInside}
 use Rattle.frp_rank.proofs.Writing.{written_length, written_anew, lower_inside, risen_inside}
 use Rattle.frp_rank.proofs.Rising.{fits_low, fits_high}
 use Rattle.frp_rank.proofs.search.Search.plan.Goals as goal
@@ -24,9 +24,9 @@ returns-then-has_high_write-clause-plan c =
     let raised = written ranks (risen_writes ranks s.by visits) in
     let new : c.in_ok-writes-2.writes.items ≡ lower_writes raised = c.in_ok-writes-2.ensures ∙ ap (λ ws. lower_writes (written ranks ws)) (c.as_slice-then-has_high_write.ensures.value ∙ writes) in
     let same : length raised ≡ length ranks = written_length ranks (risen_writes ranks s.by visits) in
-    let fits : Fits (searched s) s.from c.args.to (renumbered raised) =
+    let fits : FitsOrder (searched s) s.from c.args.to (renumbered raised) =
     fits_high s c.reach.new.slots.items visits c.args.to c.requires.able c.in_ok-visits.ensures.search c.in_ok-visits.ensures.met clear c.requires.to c.requires.higher high in
-    (rw new (subst (AreInside (lower_writes raised)) same (lower_inside raised)), rw new (subst (Fits (searched s) s.from c.args.to) (sym (written_anew ranks raised (sym same))) fits))
+    (rw new (subst (AreInside (lower_writes raised)) same (lower_inside raised)), rw new (subst (FitsOrder (searched s) s.from c.args.to) (sym (written_anew ranks raised (sym same))) fits))
 
 pub returns-clause-plan : goal.returns-clause-plan
 returns-clause-plan c =

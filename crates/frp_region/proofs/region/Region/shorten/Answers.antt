@@ -1,6 +1,6 @@
 use Rattle.std.proofs.Common.{◌≡◌, ◌<◌, ◌∙◌, ◌-◌, ◌/◌, arith, length, take, ap, sym, set}
 use Rattle.std.proofs.lemmas.List.{length-set}
-use Rattle.frp_region.specs.Chunks.{joined, ArePacked}
+use Rattle.frp_region.specs.Chunks.{chunk_items, ArePacked}
 use Rattle.frp_region.proofs.Packing.{packed_length, packed_room}
 use Rattle.frp_region.proofs.Places.{packed_shortened, joined_shortened}
 use Rattle.frp_region.proofs.region.Region.shorten.Given.{Over}
@@ -16,7 +16,7 @@ module _ (g : Over) (c : goal.After-self-2-1 g) where
   packed : ArePacked (set c.self.inside.chunks.items ((c.self.inside.count - 1) / 64) c.truncate.new.self) c.max-count.result
   packed = packed_shortened _ _ c.self.invariant.0 _ _ _ fewer (omega (arith, c.max-count.ensures)) c.index_mut.ensures.value c.truncate.ensures
 
-  left : length (joined (set c.self.inside.chunks.items ((c.self.inside.count - 1) / 64) c.truncate.new.self)) ≡ c.max-count.result
+  left : length (chunk_items (set c.self.inside.chunks.items ((c.self.inside.count - 1) / 64) c.truncate.new.self)) ≡ c.max-count.result
   left = packed_length _ _ packed
 
 pub invariant_of-self : goal.invariant_of-self
