@@ -1,0 +1,5 @@
+use Rattle.frp_moment.proofs.Steps as steps
+use Rattle.frp_moment.proofs.laws.birth_keeps.Goals as goal
+
+pub returns : goal.returns
+returns c = steps.birth_keeps
