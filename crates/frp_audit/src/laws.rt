@@ -1,0 +1,21 @@
+ghost use Rattle.frp_audit.specs.Laws.{OneTrace, ChainsExclude, FullExcludes, TooLargeExcludes};
+
+/// For given sends there is only one trace that meets the rules.
+pub fn one_trace()
+    ensures { OneTrace }
+{}
+
+/// Of a transaction of which true evidence shows a closed chain there is no trace that meets the rules.
+pub fn chains_exclude()
+    ensures { ChainsExclude }
+{}
+
+/// A file that alone makes more nodes than the limit has no trace within the limits.
+pub fn too_large_excludes()
+    ensures { TooLargeExcludes }
+{}
+
+/// Of a transaction of which true evidence shows an instance without room there is no trace within the limits.
+pub fn full_excludes()
+    ensures { FullExcludes }
+{}
