@@ -30,7 +30,7 @@ use Rattle.frp_graph.proofs.Nodes.{found_named, found_holds}
 use Rattle.frp_graph.proofs.Options.{test_some}
 use Rattle.frp_audit.proofs.Sides.{Extends, IsSame, Agrees}
 use Rattle.frp_audit.proofs.Agreeing.{IsWhole, shown, fired, old_shown, shown_by, agrees_at}
-use Rattle.frp_audit.proofs.Pasts.{Earlier, older, IsPast, moment_extends, all_there}
+use Rattle.frp_audit.proofs.Pasts.{Earlier, older, IsPast, fact_holds, moment_extends, all_there}
 use Rattle.frp_audit.proofs.Settled.{named_in, whole}
 use Rattle.frp_audit.proofs.Deeper as deeper
 use Rattle.frp_audit.proofs.Linked.{chain_more, links_more}
@@ -178,6 +178,13 @@ module _ (prog : Prog) (typed : IsTypedProg prog) (limits : Limits) (sends : Lis
 
   pub nodes : (n : Name) (x : Node) → w.node n ≡ Some x → IsSame x (u.node n)
   nodes n x live = (all_agree (suc (length n))).same n x (is_shown n) live
+
+  -- what fires by the evidence fires at the moment
+  pub fires : (n : Name) (v : Val) → w.occ n ≡ Some v → u.occ n ≡ Some v
+  fires n v q =
+      let f = fact_holds (λ f. below f.node ≡ true) e.last.fired n v q rules.settled.facts_below in
+      let x = ew.only_live n v q in
+      agrees.occs n x.0 (done_below n (ap below (sym f.1) ∙ f.3)) x.1 ∙ q
 
   -- Links.
 

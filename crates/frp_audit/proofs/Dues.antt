@@ -67,7 +67,7 @@ not_until u [] h = tt
 not_until u (m ∷ ms) h = let g : time_cmp m.time u ≡ Greater = (time_cmp-reversed u m.time).0 h.0 in (rw g refl, not_until u ms h.1)
 
 module _ (past rest : List Moment) where
-  splits_same : (u : Time) (i : ℕ) → Later u rest → (o : Option Moment) → splits_at (past ++ rest) u i o ≡ splits_at past u i o
+  pub splits_same : (u : Time) (i : ℕ) → Later u rest → (o : Option Moment) → splits_at (past ++ rest) u i o ≡ splits_at past u i o
   splits_same u i h None = refl
   splits_same u i h (Some m) =
       ap (λ ms. list_any (λ (x : Node). nat_lt i (items_to_split m x.shape)) (live ms)) (filter_apart (λ m. not (is_gt (time_cmp m.time u))) past rest (not_until u rest h))

@@ -25,3 +25,5 @@ pub mod Excluded
 pub mod Counting
 pub mod TooMany
 pub mod NoRoom
+pub mod MoreDue
+pub mod NoEnd

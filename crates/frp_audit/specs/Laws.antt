@@ -52,3 +52,15 @@ abbrev pub FullExcludes : Type 0
 FullExcludes = (prog : Prog) (limits : Limits) (sends : List Sent) (k : ℕ) (before moments : List Moment) (e : Evidence) → IsTypedProg prog
     → IsTrueEvidence prog limits sends k before e → IsTrue (is_full e.why) → AreSendable prog sends (before ++ moments)
     → IsSoundTrace prog sends (before ++ moments) → KeepsLimits limits (before ++ moments) → ⊥
+
+abbrev pub is_endless : Why → Bool
+is_endless (Chain phase names) = false
+is_endless (Endless limit) = true
+is_endless (Full node limit) = false
+
+-- Where true evidence shows of a transaction that as many moments as the limit are settled and one more is due, the moments before it
+-- go on to no trace within the limits that meets the rules for these sends, if they could be sent in it.
+abbrev pub EndlessExcludes : Type 0
+EndlessExcludes = (prog : Prog) (limits : Limits) (sends : List Sent) (k : ℕ) (before moments : List Moment) (e : Evidence) → IsTypedProg prog
+    → IsTrueEvidence prog limits sends k before e → IsTrue (is_endless e.why) → AreSendable prog sends (before ++ moments)
+    → IsSoundTrace prog sends (before ++ moments) → KeepsLimits limits (before ++ moments) → ⊥

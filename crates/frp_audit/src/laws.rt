@@ -1,4 +1,4 @@
-ghost use Rattle.frp_audit.specs.Laws.{OneTrace, ChainsExclude, FullExcludes, TooLargeExcludes};
+ghost use Rattle.frp_audit.specs.Laws.{OneTrace, ChainsExclude, EndlessExcludes, FullExcludes, TooLargeExcludes};
 
 /// For given sends there is only one trace that meets the rules.
 pub fn one_trace()
@@ -18,4 +18,9 @@ pub fn too_large_excludes()
 /// Of a transaction of which true evidence shows an instance without room there is no trace within the limits.
 pub fn full_excludes()
     ensures { FullExcludes }
+{}
+
+/// Of a transaction of which true evidence shows more moments than the limit there is no trace within the limits.
+pub fn endless_excludes()
+    ensures { EndlessExcludes }
 {}

@@ -3,4 +3,4 @@
 
 mod laws;
 
-pub use laws::{chains_exclude, full_excludes, one_trace, too_large_excludes};
+pub use laws::{chains_exclude, endless_excludes, full_excludes, one_trace, too_large_excludes};
