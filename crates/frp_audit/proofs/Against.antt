@@ -1,4 +1,4 @@
--- True evidence of a closed chain against a moment that the program has at its time: there is none.
+-- True evidence against a moment that the program has at its time, with no closed chain: no chain is shown, and no room is wanting.
 use Rattle.std.proofs.Common.{◌≡◌, ℕ, suc, ◌<◌, Bool, true, false, List, [], ◌∷◌, ◌++◌, length, Option, Some, None, refl, sym, ap, ◌∙◌, subst, arith, map, ◌+◌, length-append}
 use Rattle.std.proofs.Common.{inl, inr}
 use Rattle.std.specs.Prelude.{◌&&◌, not, nat_lt, is_some}
@@ -22,16 +22,15 @@ use Rattle.frp_graph.specs.Roles.{Execution, execution}
 use Rattle.frp_graph.specs.Births.{Instance, instance_in, plans_of, plans_by, Plan}
 use Rattle.frp_graph.specs.Evidence.{has_reads, can_make, is_whole, is_of_whole, post_below, MeetsRules, IsFull}
 use Rattle.frp_graph.specs.FirstValues.{are_all_born}
-use Rattle.frp_graph.specs.Links.{is_new, is_linked_by, is_linked, is_closed_chain}
+use Rattle.frp_graph.specs.Links.{is_new, is_linked_by, is_linked, is_closed_chain, IsChainless}
 use Rattle.frp_graph.specs.Moments.{IsMoment}
-use Rattle.frp_graph.specs.Sound.{IsSoundAfter}
 use Rattle.frp_graph.specs.TypedProg.{IsTypedProg}
 use Rattle.frp_graph.proofs.Nodes.{found_named, found_holds}
 use Rattle.frp_graph.proofs.Options.{test_some}
 use Rattle.frp_audit.proofs.Sides.{Extends, IsSame, Agrees}
 use Rattle.frp_audit.proofs.Agreeing.{IsWhole, shown, fired, old_shown, shown_by, agrees_at}
-use Rattle.frp_audit.proofs.Pasts.{Earlier, older, IsPast, fact_holds, moment_extends, all_there}
-use Rattle.frp_audit.proofs.Settled.{named_in, whole}
+use Rattle.frp_audit.proofs.Pasts.{Earlier, older, IsPast, fact_holds, moment_extends, moment_whole, all_there}
+use Rattle.frp_audit.proofs.Settled.{named_in}
 use Rattle.frp_audit.proofs.Deeper as deeper
 use Rattle.frp_audit.proofs.Linked.{chain_more, links_more}
 use Rattle.frp_audit.proofs.Evident as evident
@@ -49,7 +48,7 @@ lt_test : (a b : ℕ) → a < b → nat_lt a b ≡ true
 lt_test a b h = grind (arith, nat_tests)
 
 module _ (prog : Prog) (typed : IsTypedProg prog) (limits : Limits) (sends : List Sent) (k : ℕ) (past : List Moment) (e : Evidence) (rules : MeetsRules prog limits sends k past e)
-    (is_past : IsPast prog past) (m : Moment) (time : m.time ≡ e.last.time) (earlier : Earlier m.time past) (happens : IsMoment prog sends past m) (sound : IsSoundAfter prog past m)
+    (is_past : IsPast prog past) (m : Moment) (time : m.time ≡ e.last.time) (earlier : Earlier m.time past) (happens : IsMoment prog sends past m) (chainless : IsChainless (sight_of past m))
     (sent : AreSent prog sends past m.time) where
   pub earlier_e : Earlier e.last.time past
   earlier_e = subst (λ t. Earlier t past) time earlier
@@ -79,7 +78,7 @@ module _ (prog : Prog) (typed : IsTypedProg prog) (limits : Limits) (sends : Lis
   eu = subst (λ t. Extends (older past t) u) time (moment_extends prog past is_past m earlier sends happens)
 
   all_u : IsWhole prog sends u
-  all_u = whole prog typed sends past is_past m earlier happens sound
+  all_u = record { made = moment_whole prog past is_past m earlier sends happens; equations = happens.equations }
 
   sent_e : AreSent prog sends past e.last.time
   sent_e = subst (AreSent prog sends past) time sent
@@ -209,7 +208,7 @@ module _ (prog : Prog) (typed : IsTypedProg prog) (limits : Limits) (sends : Lis
   pub no_chain : (phase : Phase) (names : List Name) → is_closed_chain (is_linked_by w after phase) names ≡ true → ⊥
   no_chain phase names h =
       let there = chain_more (is_linked_by w after phase) (is_linked u phase) (linked phase) names h in
-      let none = sound.chainless phase names in
+      let none = chainless phase names in
       cc
 
   -- An instance for which there is no room.
@@ -270,17 +269,17 @@ module _ (prog : Prog) (typed : IsTypedProg prog) (limits : Limits) (sends : Lis
         let live_x : w.node node ≡ Some x = full.is_live in
         let parts : can_make prog sends w e.last below x && is_whole prog sends w e.last below x ≡ true = rw (of, live_x) at (born_whole n z.0 z.1 new) in
         let q = whole_parts x (both_true (can_make prog sends w e.last below x) (is_whole prog sends w e.last below x) parts).1 in
-        let both : ◌≡◌ {A = Option Instance} (Some q.0) (Some full.instance) = sym q.1 ∙ full.is_instance in
+        let both : ◌≡◌ {A = Option Instance} (Some q.0) (Some full.instance) = ◌∙◌ {a = Some q.0} (sym {b = Some q.0} q.1) full.is_instance in
         let same : q.0 ≡ full.instance = cc in
         let born : are_all_born e.last.born full.instance.nodes ≡ true = subst (λ (i : Instance). are_all_born e.last.born i.nodes ≡ true) same q.2 in
-        let unborn : are_all_born e.last.born full.instance.nodes ≡ false = full.unborn in
+        let unborn = full.unborn in
         cc
 
     within : (n : Name) → In n (old_names ++ new_names) → In n (map (λ x. x.name) (live (past ++ m ∷ [])))
     within n h = elim (in_either n old_names new_names h) [
       | inl a ↦ (let z = found_in (live (past ++ e.last ∷ [])) n a in let s = nodes n z.0 z.1 in named_in (live (past ++ m ∷ [])) n s.node s.found)
       | inr b ↦
-          let all = all_there prog past is_past m earlier sends happens full.instance.nodes all_born in
+          let all = all_there prog past is_past m earlier full.instance.nodes all_born in
           let y = there_among full.instance.nodes n b all in
           named_in (live (past ++ m ∷ [])) n y.0 y.1
     ]

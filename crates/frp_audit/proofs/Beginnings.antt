@@ -40,7 +40,7 @@ go_on_at sends past ms rest m due other earlier later after =
     cc
 
 -- a moment of a list is found at its time
-found_at : (past ms : List Moment) (m : Moment) → Earlier m.time past → is_some (moment_at (past ++ m ∷ ms) m.time) ≡ true
+pub found_at : (past ms : List Moment) (m : Moment) → Earlier m.time past → is_some (moment_at (past ++ m ∷ ms) m.time) ≡ true
 found_at past ms m h =
     let first : moment_at (m ∷ ms) m.time ≡ Some m = rw (time_eq-same m.time) refl in
     ap is_some (at_next m.time past (m ∷ ms) (none_earlier m.time past h) ∙ first)
@@ -52,7 +52,34 @@ pub record AreUntil (prog : Prog) (sends : List Sent) (t : Time) (ms : List Mome
   pub moments : AtEach (IsMoment prog sends) [] ms
   pub sound : AtEach (IsSoundAfter prog) [] ms
 
-module _ (prog : Prog) (typed : IsTypedProg prog) (sends : List Sent) (t : Time) (trace few : List Moment) (whole : IsSoundTrace prog sends trace) (until : AreUntil prog sends t few)
+-- These moments are those that the program has before a time, and perhaps later ones.
+pub record AreFrom (prog : Prog) (sends : List Sent) (t : Time) (ms : List Moment) : Type 0 where
+  pub rising : IsStrictlySortedBy time_cmp (map (λ m. m.time) ms)
+  pub due : (s : Time) → is_some (moment_at ms s) ≡ true → is_due sends ms s ≡ true
+  pub has : (s : Time) → time_cmp s t ≡ Less → is_due sends ms s ≡ true → is_some (moment_at ms s) ≡ true
+  pub moments : AtEach (IsMoment prog sends) [] ms
+  pub sound : AtEach (IsSoundAfter prog) [] ms
+
+-- so are those of a whole trace, and those until a later time
+pub trace_from : (prog : Prog) (sends : List Sent) (t : Time) (trace : List Moment) → IsSoundTrace prog sends trace → AreFrom prog sends t trace
+trace_from prog sends t trace whole = record {
+  rising = whole.is_trace.rising;
+  due = λ s h. sym (whole.is_trace.due s) ∙ h;
+  has = λ s l d. whole.is_trace.due s ∙ d;
+  moments = whole.is_trace.moments;
+  sound = whole.sound;
+}
+
+pub until_from : (prog : Prog) (sends : List Sent) (t u : Time) (ms : List Moment) → AreUntil prog sends u ms → ((s : Time) → time_cmp s t ≡ Less → time_cmp s u ≡ Less) → AreFrom prog sends t ms
+until_from prog sends t u ms until less = record {
+  rising = until.rising;
+  due = λ s h. (both_true (is_due sends ms s) (is_lt (time_cmp s u)) (sym (until.due s) ∙ h)).0;
+  has = λ s l d. until.due s ∙ true_both (is_due sends ms s) (is_lt (time_cmp s u)) d (ap is_lt (less s l));
+  moments = until.moments;
+  sound = until.sound;
+}
+
+module _ (prog : Prog) (typed : IsTypedProg prog) (sends : List Sent) (t : Time) (trace few : List Moment) (whole : AreFrom prog sends t trace) (until : AreUntil prog sends t few)
     (sent : (past ms : List Moment) (m : Moment) → IsPast prog past → past ++ m ∷ ms ≡ trace → Earlier m.time past → Later m.time ms → AreSent prog sends past m.time) where
   abbrev Rising : List Moment → Type 0
   Rising ms = IsStrictlySortedBy time_cmp (map (λ m. m.time) ms)
@@ -67,19 +94,17 @@ module _ (prog : Prog) (typed : IsTypedProg prog) (sends : List Sent) (t : Time)
     sound_too : AtEach (IsSoundAfter prog) past ks
 
   parts_own : (past ms : List Moment) (m : Moment) → past ++ m ∷ ms ≡ trace → Earlier m.time past × Later m.time ms
-  parts_own past ms m is = rise_parts past ms m (subst Rising (sym is) whole.is_trace.rising)
+  parts_own past ms m is = rise_parts past ms m (subst Rising (sym is) whole.rising)
 
   parts_other : (past ks : List Moment) (k : Moment) → past ++ k ∷ ks ≡ few → Earlier k.time past × Later k.time ks
   parts_other past ks k is = rise_parts past ks k (subst Rising (sym is) until.rising)
 
   -- a moment of the trace is due in it, and what is due in it has a moment
   due_own : (past ms : List Moment) (m : Moment) → past ++ m ∷ ms ≡ trace → is_due sends (past ++ m ∷ ms) m.time ≡ true
-  due_own past ms m is =
-      let e = subst (λ (ks : List Moment). is_some (moment_at ks m.time) ≡ is_due sends ks m.time) (sym is) (whole.is_trace.due m.time) in
-      sym e ∙ found_at past ms m (parts_own past ms m is).0
+  due_own past ms m is = subst (λ (ks : List Moment). is_some (moment_at ks m.time) ≡ true → is_due sends ks m.time ≡ true) (sym is) (whole.due m.time) (found_at past ms m (parts_own past ms m is).0)
 
-  has_own : (past ms : List Moment) (s : Time) → past ++ ms ≡ trace → is_due sends (past ++ ms) s ≡ true → is_some (moment_at (past ++ ms) s) ≡ true
-  has_own past ms s is d = subst (λ (ks : List Moment). is_some (moment_at ks s) ≡ is_due sends ks s) (sym is) (whole.is_trace.due s) ∙ d
+  has_own : (past ms : List Moment) (s : Time) → past ++ ms ≡ trace → time_cmp s t ≡ Less → is_due sends (past ++ ms) s ≡ true → is_some (moment_at (past ++ ms) s) ≡ true
+  has_own past ms s is l = subst (λ (ks : List Moment). is_due sends ks s ≡ true → is_some (moment_at ks s) ≡ true) (sym is) (whole.has s l)
 
   -- and so it is of the others before t
   other_due : (past ks : List Moment) (k : Moment) → past ++ k ∷ ks ≡ few → (is_due sends (past ++ k ∷ ks) k.time ≡ true) × (time_cmp k.time t ≡ Less)
@@ -104,7 +129,7 @@ module _ (prog : Prog) (typed : IsTypedProg prog) (sends : List Sent) (t : Time)
             p.0 p.1 (l, later_more m.time k.time ks l q.1))
         | inr (inl s) ↦ s
         | inr (inr g) ↦
-            absurd (go_on_at sends past ks (m ∷ ms) k d.0 (has_own past (m ∷ ms) k.time e) q.0 q.1 (g, later_more k.time m.time ms g p.1))
+            absurd (go_on_at sends past ks (m ∷ ms) k d.0 (has_own past (m ∷ ms) k.time e d.1) q.0 q.1 (g, later_more k.time m.time ms g p.1))
       ]
 
   -- The trace begins with these moments, and they are past.
@@ -118,7 +143,8 @@ module _ (prog : Prog) (typed : IsTypedProg prog) (sends : List Sent) (t : Time)
       record { rest = ms; is = refl; is_past = subst (λ (ks : List Moment). IsPast prog ks) (sym (append-nil past) ∙ h.other) h.is_past }
   begins_from past [] (k ∷ ks) h =
       let q = parts_other past ks k h.other in
-      absurd (go_on_at sends past ks [] k (other_due past ks k h.other).0 (has_own past [] k.time h.own) q.0 q.1 tt)
+      let d = other_due past ks k h.other in
+      absurd (go_on_at sends past ks [] k d.0 (has_own past [] k.time h.own d.1) q.0 q.1 tt)
   begins_from past (m ∷ ms) (k ∷ ks) h =
       let p = parts_own past ms m h.own in
       let q = parts_other past ks k h.other in
@@ -144,7 +170,7 @@ module _ (prog : Prog) (typed : IsTypedProg prog) (sends : List Sent) (t : Time)
     is_past = none_past prog typed;
     own = refl;
     other = refl;
-    moments = whole.is_trace.moments;
+    moments = whole.moments;
     sound = whole.sound;
     moments_too = until.moments;
     sound_too = until.sound;
@@ -165,27 +191,31 @@ module _ (prog : Prog) (typed : IsTypedProg prog) (sends : List Sent) (t : Time)
       let e : time_cmp t t ≡ Equal = time_cmp-same t in
       cc
 
-  goes_on_with : (rest : List Moment) → trace ≡ few ++ rest → IsPast prog few → is_due sends few t ≡ true → GoesOn
-  goes_on_with [] is past due =
-      let same : few ++ [] ≡ few = append-nil few in
-      absurd (not_yet (subst (λ (ks : List Moment). is_some (moment_at ks t) ≡ true) same (has_own few [] t (sym is) (subst (λ (ks : List Moment). is_due sends ks t ≡ true) (sym same) due))))
-  goes_on_with (m ∷ ms) is past due =
-      let p = parts_own few ms m (sym is) in
-      elim (time_cmp-total m.time t) [
-        | inl l ↦ absurd (go_on_at sends few ms [] m (due_own few ms m (sym is)) (has_other few [] m.time (append-nil few) l) p.0 p.1 tt)
-        | inr (inl e) ↦ record { moment = m; later = ms; is = is; at = e; is_past = past }
-        | inr (inr g) ↦
-            let own = due_same few (m ∷ ms) sends t (λ u l. (time_cmp-transitive u t m.time l g, later_more u m.time ms (time_cmp-transitive u t m.time l g) p.1)) in
-            let there = has_own few (m ∷ ms) t (sym is) (own ∙ due) in
-            absurd (by (moment_at few t) refl there g p.1)
-      ]
-    where
-      by : (o : Option Moment) → moment_at few t ≡ o → is_some (moment_at (few ++ m ∷ ms) t) ≡ true → time_cmp t m.time ≡ Less → Later m.time ms → ⊥
-      by (Some k) e h g l = not_yet (ap is_some e)
-      by None e h g l =
-          let none : moment_at (few ++ m ∷ ms) t ≡ None = at_next t few (m ∷ ms) e ∙ none_at t (m ∷ ms) (g, later_more t m.time ms g l) in
-          let no : is_some (moment_at (few ++ m ∷ ms) t) ≡ false = ap is_some none in
-          cc
+  module _ (at_t : is_due sends trace t ≡ true → is_some (moment_at trace t) ≡ true) where
+    has_at : (rest : List Moment) → trace ≡ few ++ rest → is_due sends (few ++ rest) t ≡ true → is_some (moment_at (few ++ rest) t) ≡ true
+    has_at rest is = subst (λ (ks : List Moment). is_due sends ks t ≡ true → is_some (moment_at ks t) ≡ true) is at_t
 
-  pub goes_on : is_due sends few t ≡ true → GoesOn
-  goes_on due = let b = begins in goes_on_with b.rest b.is b.is_past due
+    goes_on_with : (rest : List Moment) → trace ≡ few ++ rest → IsPast prog few → is_due sends few t ≡ true → GoesOn
+    goes_on_with [] is past due =
+        let same : few ++ [] ≡ few = append-nil few in
+        absurd (not_yet (subst (λ (ks : List Moment). is_some (moment_at ks t) ≡ true) same (has_at [] is (subst (λ (ks : List Moment). is_due sends ks t ≡ true) (sym same) due))))
+    goes_on_with (m ∷ ms) is past due =
+        let p = parts_own few ms m (sym is) in
+        elim (time_cmp-total m.time t) [
+          | inl l ↦ absurd (go_on_at sends few ms [] m (due_own few ms m (sym is)) (has_other few [] m.time (append-nil few) l) p.0 p.1 tt)
+          | inr (inl e) ↦ record { moment = m; later = ms; is = is; at = e; is_past = past }
+          | inr (inr g) ↦
+              let own = due_same few (m ∷ ms) sends t (λ u l. (time_cmp-transitive u t m.time l g, later_more u m.time ms (time_cmp-transitive u t m.time l g) p.1)) in
+              let there = has_at (m ∷ ms) is (own ∙ due) in
+              absurd (by (moment_at few t) refl there g p.1)
+        ]
+      where
+        by : (o : Option Moment) → moment_at few t ≡ o → is_some (moment_at (few ++ m ∷ ms) t) ≡ true → time_cmp t m.time ≡ Less → Later m.time ms → ⊥
+        by (Some k) e h g l = not_yet (ap is_some e)
+        by None e h g l =
+            let none : moment_at (few ++ m ∷ ms) t ≡ None = at_next t few (m ∷ ms) e ∙ none_at t (m ∷ ms) (g, later_more t m.time ms g l) in
+            let no : is_some (moment_at (few ++ m ∷ ms) t) ≡ false = ap is_some none in
+            cc
+
+    pub goes_on : is_due sends few t ≡ true → GoesOn
+    goes_on due = let b = begins in goes_on_with b.rest b.is b.is_past due

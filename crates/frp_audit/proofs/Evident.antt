@@ -8,7 +8,7 @@ use Rattle.std.proofs.lemmas.Bool.Decides.{nat_tests}
 use Rattle.frp_base.specs.declared.name.Name.{Name}
 use Rattle.frp_base.specs.declared.val.Val.{Val}
 use Rattle.frp_base.specs.Name.{name_eq}
-use Rattle.frp_base.proofs.Booleans.{both_true, chosen}
+use Rattle.frp_base.proofs.Booleans.{chosen}
 use Rattle.frp_base.proofs.Lists.{all_front, all_follow}
 use Rattle.frp_graph.specs.declared.prog.Prog.{Prog}
 use Rattle.frp_graph.specs.declared.limits.Limits.{Limits}
@@ -29,7 +29,6 @@ use Rattle.frp_graph.specs.Links.{during_links, is_new, links, is_linked}
 use Rattle.frp_graph.specs.TypedProg.{IsTypedProg}
 use Rattle.frp_graph.proofs.Nodes.{found_named, found_holds}
 use Rattle.frp_graph.proofs.Lists.{name_same}
-use Rattle.frp_graph.proofs.Options.{some_there}
 use Rattle.frp_audit.proofs.Ranks.{In, Distinct, Low}
 use Rattle.frp_audit.proofs.Ways.{low_unled}
 use Rattle.frp_audit.proofs.Seen.{shown_allowed}
@@ -38,7 +37,8 @@ use Rattle.frp_audit.proofs.Plans.{executed}
 use Rattle.frp_audit.proofs.Back.{reads_back}
 use Rattle.frp_audit.proofs.Makers.{AreMade}
 use Rattle.frp_audit.proofs.Agreeing.{IsSide}
-use Rattle.frp_audit.proofs.Pasts.{Earlier, older, IsPast, found, extends, once_grown, new_node}
+use Rattle.frp_audit.proofs.Pasts as pasts
+use Rattle.frp_audit.proofs.Pasts.{Earlier, older, IsPast, extends, once_grown, new_node}
 use Rattle.frp_audit.proofs.Settled.{named_in}
 
 -- Ranks.
@@ -112,7 +112,7 @@ module _ (prog : Prog) (typed : IsTypedProg prog) (limits : Limits) (sends : Lis
       let r = below_some (rank_in e.ranks n) e.level h in
       ranked (λ m. is_some (w.node m) ≡ true) e.ranks n r.0 r.1 rules.ranked.only_live
 
-  only : AllByRecursion (λ f. is_some (w.node f.node) ≡ true) e.last.fired
+  pub only : AllByRecursion (λ f. is_some (w.node f.node) ≡ true) e.last.fired
   only = all_follow (λ f. below f.node ≡ true) (λ f. is_some (w.node f.node) ≡ true) (λ f h. live_below f.node h) e.last.fired rules.settled.facts_below
 
   planned : AllByRecursion (λ x. (d : Plan) × (plan_as prog w x.name ≡ Some d)) e.last.born
@@ -141,20 +141,9 @@ module _ (prog : Prog) (typed : IsTypedProg prog) (limits : Limits) (sends : Lis
   unled : (d : Plan) (x : Node) (v : Val) → HasFirst prog w d x → x.first ≡ Some v → LeadsToChain (is_linked w Birth) x.name → ⊥
   unled d x v h f l = let none : x.first ≡ None = h.missing l in let both : ◌≡◌ {A = Option Val} None (Some v) = sym none ∙ f in cc
 
-  -- What is born is there.
-
-  born_there : (n : Name) (y : Node) → node_in e.last.born n ≡ Some y → (z : Node) × (w.node n ≡ Some z)
-  born_there n y h = by (node_in (live past) n) refl where
-    by : (o : Option Node) → node_in (live past) n ≡ o → (z : Node) × (w.node n ≡ Some z)
-    by None q = (y, found prog past is_past e.last earlier n ∙ rw q h)
-    by (Some x) q = (x, found prog past is_past e.last earlier n ∙ rw q refl)
-
+  -- what is born is there
   pub all_there : (ds : List Plan) → are_all_born e.last.born ds ≡ true → AllByRecursion (λ d. (y : Node) × (w.node d.name ≡ Some y)) ds
-  all_there [] h = tt
-  all_there (d ∷ ds) h =
-      let p = both_true _ _ h in
-      let y = some_there (node_in e.last.born d.name) p.0 in
-      (born_there d.name y.0 y.1, all_there ds p.1)
+  all_there = pasts.all_there prog past is_past e.last earlier
 
   pub made : AreMade prog w
   made = record {
@@ -214,10 +203,11 @@ module _ (prog : Prog) (typed : IsTypedProg prog) (limits : Limits) (sends : Lis
   makes : (x : Node) (c : Execution) → execution x.shape ≡ Some c → below c.source ≡ true → is_some (w.occ c.source) ≡ true → can_make prog sends w e.last below x ≡ true
   makes x c q b o = rw (q, b, o) refl
 
-  below_there : (n : Name) (x : Node) → w.node n ≡ Some x → Below n → AllByRecursion (λ d. (y : Node) × (w.node d.name ≡ Some y)) (plans_by prog w x)
-  below_there n x live b = by (instance_in prog w x.name x.shape) refl where
-    by : (o : Option Instance) → instance_in prog w x.name x.shape ≡ o → AllByRecursion (λ d. (y : Node) × (w.node d.name ≡ Some y)) (plans_of o)
-    by None q = tt
+  -- a node below the level has made all of its instance
+  pub below_born : (n : Name) (x : Node) → w.node n ≡ Some x → Below n → are_all_born e.last.born (plans_by prog w x) ≡ true
+  below_born n x live b = by (instance_in prog w x.name x.shape) refl where
+    by : (o : Option Instance) → instance_in prog w x.name x.shape ≡ o → are_all_born e.last.born (plans_of o) ≡ true
+    by None q = refl
     by (Some i) q =
         let c = executed prog w x.name x.shape i q in
         let lower = all_front (λ j. rank j < rank n) (during_links w (post_in w) x.shape) _ (is_lower n x live b) in
@@ -225,7 +215,10 @@ module _ (prog : Prog) (typed : IsTypedProg prog) (limits : Limits) (sends : Lis
         let under : rank n < e.level = below_rank e.ranks e.level n b in
         let source : below c.call.source ≡ true = rank_below e.ranks e.level c.call.source (omega arith) in
         let can = makes x c.call c.executes source (ap is_some c.fires) in
-        all_there i.nodes (whole_born x i q (rules.births.those_below n x live (named_below n x live b) can))
+        whole_born x i q (rules.births.those_below n x live (named_below n x live b) can)
+
+  below_there : (n : Name) (x : Node) → w.node n ≡ Some x → Below n → AllByRecursion (λ d. (y : Node) × (w.node d.name ≡ Some y)) (plans_by prog w x)
+  below_there n x live b = all_there (plans_by prog w x) (below_born n x live b)
 
   pub side : IsSide prog sends w rank Below
   side = record {

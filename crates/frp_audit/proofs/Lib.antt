@@ -27,3 +27,7 @@ pub mod TooMany
 pub mod NoRoom
 pub mod MoreDue
 pub mod NoEnd
+pub mod Ended
+pub mod Sendable
+pub mod Only
+pub mod OneVerdict

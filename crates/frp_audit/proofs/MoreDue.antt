@@ -2,7 +2,7 @@
 -- streams fire, and the same splits are live.
 use Rattle.std.proofs.Common.{◌≡◌, ℕ, ◌<◌, Bool, true, false, List, [], ◌∷◌, ◌++◌, map, length, Option, Some, None, refl, sym, ap, ◌∙◌, subst, arith, append_assoc}
 use Rattle.std.proofs.Common.{inl, inr}
-use Rattle.std.specs.Prelude.{not, ◌||◌, nat_lt, is_some, option_and_then, if◌then◌else◌}
+use Rattle.std.specs.Prelude.{not, ◌||◌, nat_lt, option_and_then, if◌then◌else◌}
 use Rattle.std.specs.List.{AllByRecursion, list_any}
 use Rattle.std.specs.Ordering.{is_gt}
 use Rattle.std.specs.declared.cmp.Ordering.TheVariants.{Less, Equal, Greater}
@@ -34,7 +34,8 @@ use Rattle.frp_audit.proofs.Settled.{named_in}
 
 -- Nodes of a list: one at which a test holds is found by its name, where no name is of two, and one that is found is of the list.
 
-any_named : (q : Node → Bool) (xs : List Node) → Distinct (map (λ x. x.name) xs) → list_any q xs ≡ true → (x : Node) × (node_in xs x.name ≡ Some x) × (q x ≡ true)
+any_named : (q : Node → Bool) (xs : List Node) → Distinct (map (λ x. x.name) xs) → list_any q xs ≡ true
+    → (x : Node) × (node_in xs x.name ≡ Some x) × (q x ≡ true)
 any_named q [] d h = absurd cc
 any_named q (y ∷ ys) d h = elim (either_true (q y) (list_any q ys) h) [
   | inl a ↦ (let same : name_eq y.name y.name ≡ true = name_eq-same y.name in (y, rw same refl, a))
@@ -79,10 +80,12 @@ until_later u [] h = tt
 until_later u (m ∷ ms) h = let g : time_cmp m.time u ≡ Greater = (time_cmp-reversed u m.time).0 h.0 in (rw g refl, until_later u ms h.1)
 
 -- what is live at the time of a moment is what is live after it
-live_then : (past later : List Moment) (m : Moment) (u : Time) → m.time ≡ u → Earlier u past → Later u later → live_at (past ++ m ∷ later) u ≡ live (past ++ m ∷ [])
+live_then : (past later : List Moment) (m : Moment) (u : Time) → m.time ≡ u → Earlier u past → Later u later
+    → live_at (past ++ m ∷ later) u ≡ live (past ++ m ∷ [])
 live_then past later m u is earlier after =
     let self : time_cmp m.time u ≡ Equal = subst (λ t. time_cmp m.time t ≡ Equal) is (time_cmp-same m.time) in
-    let here : AllByRecursion (λ k. not (is_gt (time_cmp k.time u)) ≡ true) (past ++ m ∷ []) = all_both _ past (m ∷ []) (until_all u past earlier) (rw self refl, tt) in
+    let here : AllByRecursion (λ k. not (is_gt (time_cmp k.time u)) ≡ true) (past ++ m ∷ [])
+    = all_both _ past (m ∷ []) (until_all u past earlier) (rw self refl, tt) in
     let apart = filter_apart (λ k. not (is_gt (time_cmp k.time u))) (past ++ m ∷ []) later (until_later u later after) in
     let whole = filter_each (λ k. not (is_gt (time_cmp k.time u))) (past ++ m ∷ []) here in
     ap (λ ms. live_at ms u) (sym (append_assoc past (m ∷ []) later)) ∙ ap live (apart ∙ whole)
@@ -92,7 +95,7 @@ or_follow true b c d f h = refl
 or_follow false true c d f h = refl
 or_follow false false c d f h = f h
 
-none_less : (i : ℕ) → nat_lt i 0 ≡ true → ⊥
+pub none_less : (i : ℕ) → nat_lt i 0 ≡ true → ⊥
 none_less i h = let l : i < 0 = grind (arith, nat_tests) in omega arith
 
 -- Two moments at one time after the same moments, of which the second has the nodes of the first, and fires where it fires.
@@ -126,12 +129,14 @@ module _ (past later : List Moment) (m last : Moment) (same : m.time ≡ last.ti
       let any = subst (λ (xs : List Node). list_any (λ x. nat_lt i (items_to_split last x.shape)) xs ≡ true) own h in
       let x = any_named (λ x. nat_lt i (items_to_split last x.shape)) (live (past ++ last ∷ [])) once any in
       let y = nodes x.0.name x.0 x.1 in
-      let holds : nat_lt i (items_to_split m y.0.shape) ≡ true = items_same i y.0.shape (subst (λ (s : Shape). nat_lt i (items_to_split last s) ≡ true) (sym y.2) x.2) in
+      let holds : nat_lt i (items_to_split m y.0.shape) ≡ true
+      = items_same i y.0.shape (subst (λ (s : Shape). nat_lt i (items_to_split last s) ≡ true) (sym y.2) x.2) in
       subst (λ (xs : List Node). list_any (λ x. nat_lt i (items_to_split m x.shape)) xs ≡ true) (sym other)
       (named_any (λ x. nat_lt i (items_to_split m x.shape)) (live (past ++ m ∷ [])) x.0.name y.0 y.1 holds)
 
   -- at an earlier time
-  splits_before : (u : Time) (i : ℕ) (k : Moment) → moment_at past u ≡ Some k → splits_at (past ++ last ∷ []) u i (Some k) ≡ true → splits_at (past ++ m ∷ later) u i (Some k) ≡ true
+  splits_before : (u : Time) (i : ℕ) (k : Moment) → moment_at past u ≡ Some k → splits_at (past ++ last ∷ []) u i (Some k) ≡ true
+      → splits_at (past ++ m ∷ later) u i (Some k) ≡ true
   splits_before u i k e h =
       let l : time_cmp u last.time ≡ Less = found_earlier u last.time past k earlier e in
       let lm : time_cmp u m.time ≡ Less = found_earlier u m.time past k earlier_m e in
@@ -146,9 +151,12 @@ module _ (past later : List Moment) (m last : Moment) (same : m.time ≡ last.ti
         let own : moment_at (past ++ last ∷ []) p.0 ≡ Some last = at_next p.0 past (last ∷ []) none ∙ rw t refl in
         let t_m : time_eq m.time p.0 ≡ true = ap (λ r. time_eq r p.0) same ∙ t in
         let other : moment_at (past ++ m ∷ later) p.0 ≡ Some m = at_next p.0 past (m ∷ later) none ∙ rw t_m refl in
-        let g : splits_at (past ++ last ∷ []) p.0 p.1 (Some last) ≡ true = subst (λ (o : Option Moment). splits_at (past ++ last ∷ []) p.0 p.1 o ≡ true) own h in
-        let g_now : splits_at (past ++ last ∷ []) last.time p.1 (Some last) ≡ true = subst (λ (r : Time). splits_at (past ++ last ∷ []) r p.1 (Some last) ≡ true) (sym is) g in
-        let k : splits_at (past ++ m ∷ later) p.0 p.1 (Some m) ≡ true = subst (λ (r : Time). splits_at (past ++ m ∷ later) r p.1 (Some m) ≡ true) is (splits_now p.1 g_now) in
+        let g : splits_at (past ++ last ∷ []) p.0 p.1 (Some last) ≡ true
+        = subst (λ (o : Option Moment). splits_at (past ++ last ∷ []) p.0 p.1 o ≡ true) own h in
+        let g_now : splits_at (past ++ last ∷ []) last.time p.1 (Some last) ≡ true
+        = subst (λ (r : Time). splits_at (past ++ last ∷ []) r p.1 (Some last) ≡ true) (sym is) g in
+        let k : splits_at (past ++ m ∷ later) p.0 p.1 (Some m) ≡ true
+        = subst (λ (r : Time). splits_at (past ++ m ∷ later) r p.1 (Some m) ≡ true) is (splits_now p.1 g_now) in
         subst (λ (o : Option Moment). splits_at (past ++ m ∷ later) p.0 p.1 o ≡ true) (sym other) k
     now none false t =
         let own : moment_at (past ++ last ∷ []) p.0 ≡ None = at_next p.0 past (last ∷ []) none ∙ rw t refl in

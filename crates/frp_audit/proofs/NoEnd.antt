@@ -15,7 +15,7 @@ use Rattle.frp_graph.specs.declared.evidence.Evidence.{Evidence}
 use Rattle.frp_graph.specs.declared.evidence.Why.{Why}
 use Rattle.frp_graph.specs.declared.evidence.Why.TheVariants.{Chain, Endless, Full}
 use Rattle.frp_graph.specs.Trace.{moment_at, sight_of}
-use Rattle.frp_graph.specs.Evidence.{is_below, Shows, IsEndless, MeetsRules}
+use Rattle.frp_graph.specs.Evidence.{is_below, Shows, MeetsRules}
 use Rattle.frp_graph.specs.Moments.{is_due, is_of_transaction, transaction}
 use Rattle.frp_graph.specs.Sends.{AreSendable}
 use Rattle.frp_graph.specs.Sound.{KeepsLimits}
@@ -54,14 +54,18 @@ counts_more k (m ∷ ms) rest last h =
 
 counts_after : (k : ℕ) (before rest : List Moment) → length (transaction k rest) ≤ length (transaction k (before ++ rest))
 counts_after k before rest =
-    let parts : length (transaction k (before ++ rest)) ≡ length (transaction k before ++ transaction k rest) = ap length (filter-append (λ m. is_of_transaction k m.time) before rest) in
-    let sum : length (transaction k before ++ transaction k rest) ≡ length (transaction k before) + length (transaction k rest) = simp length-append refl in
+    let parts : length (transaction k (before ++ rest)) ≡ length (transaction k before ++ transaction k rest)
+    = ap length (filter-append (λ m. is_of_transaction k m.time) before rest) in
+    let sum : length (transaction k before ++ transaction k rest) ≡ length (transaction k before) + length (transaction k rest)
+    = simp length-append refl in
     omega arith
 
-not_there : (t : Time) (ms : List Moment) (last : Moment) → moment_at (ms ++ last ∷ []) t ≡ None → (moment_at ms t ≡ None) × (time_eq last.time t ≡ false)
+not_there : (t : Time) (ms : List Moment) (last : Moment) → moment_at (ms ++ last ∷ []) t ≡ None
+    → (moment_at ms t ≡ None) × (time_eq last.time t ≡ false)
 not_there t [] last h = (refl, is_false (time_eq last.time t) (λ e. let some : ◌≡◌ {A = Option Moment} (Some last) None = rw e at h in cc))
 not_there t (m ∷ ms) last h = by (time_eq m.time t) h (not_there t ms last) where
-  by : (b : Bool) → (if b then Some m else moment_at (ms ++ last ∷ []) t) ≡ None → (moment_at (ms ++ last ∷ []) t ≡ None → (moment_at ms t ≡ None) × (time_eq last.time t ≡ false))
+  by : (b : Bool) → (if b then Some m else moment_at (ms ++ last ∷ []) t) ≡ None
+      → (moment_at (ms ++ last ∷ []) t ≡ None → (moment_at ms t ≡ None) × (time_eq last.time t ≡ false))
       → ((if b then Some m else moment_at ms t) ≡ None) × (time_eq last.time t ≡ false)
   by true h f = absurd cc
   by false h f = f h
@@ -81,7 +85,7 @@ module _ (prog : Prog) (typed : IsTypedProg prog) (limits : Limits) (sends : Lis
         let n = next prog typed limits sends k past e rules trace whole sendable in
         let p = parts prog typed limits sends k past e rules trace whole sendable in
         let now = happens prog typed limits sends k past e rules trace whole sendable in
-        let well = sound prog typed limits sends k past e rules trace whole sendable in
+        let well = (sound prog typed limits sends k past e rules trace whole sendable).chainless in
         let sent = is_sent prog typed limits sends k past e rules trace whole sendable in
         let earlier : Earlier e.last.time past = earlier_e prog typed limits sends k past e rules n.is_past n.moment n.at p.0 now well sent in
         let due_here : is_due sends (past ++ n.moment ∷ n.later) shows.more ≡ true
@@ -103,8 +107,8 @@ module _ (prog : Prog) (typed : IsTypedProg prog) (limits : Limits) (sends : Lis
         let more = counts_after k before (e.done ++ n.moment ∷ n.later) in
         let count : length (transaction k (e.done ++ n.moment ∷ n.later)) ≡ length e.done + length (transaction k (n.moment ∷ n.later)) = c.0 in
         let few : length (transaction k trace) ≤ limits.moments = keeps.moments k in
-        let limit_is : limit ≡ limits.moments = shows.is_limit in
-        let settled : length e.done + 1 ≡ limit = shows.settled in
+        let limit_is = shows.is_limit in
+        let settled = shows.settled in
         omega arith
 
 pub endless_excludes : EndlessExcludes

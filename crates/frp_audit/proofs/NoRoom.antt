@@ -20,7 +20,7 @@ use Rattle.frp_audit.proofs.Excluded.{next, parts, happens, sound, is_sent}
 use Rattle.frp_audit.proofs.TooMany.{too_large_excludes}
 
 -- what is live after some moments is no more than what is live after more
-live_more : (ms rest : List Moment) (m : Moment) → length (live (ms ++ m ∷ [])) ≤ length (live (ms ++ m ∷ rest))
+pub live_more : (ms rest : List Moment) (m : Moment) → length (live (ms ++ m ∷ [])) ≤ length (live (ms ++ m ∷ rest))
 live_more ms rest m =
     let same : (ms ++ m ∷ []) ++ rest ≡ ms ++ m ∷ rest = append_assoc ms (m ∷ []) rest in
     let all : length (live (ms ++ m ∷ rest)) ≡ length (live (ms ++ m ∷ []) ++ live rest) = ap (λ (ks : List Moment). length (live ks)) (sym same) ∙ ap length (live_append (ms ++ m ∷ []) rest) in
@@ -37,7 +37,7 @@ module _ (prog : Prog) (typed : IsTypedProg prog) (limits : Limits) (sends : Lis
         let p = parts prog typed limits sends k past e rules trace whole sendable in
         let many : limits.nodes < length (live (past ++ n.moment ∷ []))
         = no_room prog typed limits sends k past e rules n.is_past n.moment n.at p.0 (happens prog typed limits sends k past e rules trace whole sendable)
-        (sound prog typed limits sends k past e rules trace whole sendable) (is_sent prog typed limits sends k past e rules trace whole sendable) node limit shows in
+        (sound prog typed limits sends k past e rules trace whole sendable).chainless (is_sent prog typed limits sends k past e rules trace whole sendable) node limit shows in
         let more = live_more past n.later n.moment in
         let same : length (live trace) ≡ length (live (past ++ n.moment ∷ n.later)) = ap (λ (ms : List Moment). length (live ms)) n.is in
         let few : length (live trace) ≤ limits.nodes = keeps.nodes in

@@ -130,6 +130,20 @@ module _ (prog : Prog) (past : List Moment) (is_past : IsPast prog past) (m : Mo
       ap (λ xs. node_in xs n) (live_append past (m ∷ []) ∙ ap (λ xs. live past ++ xs) (append-nil m.born))
       ∙ found_joined (live past) m.born n
 
+  -- what is born is there
+  born_there : (n : Name) (y : Node) → node_in m.born n ≡ Some y → (z : Node) × (w.node n ≡ Some z)
+  born_there n y e = by (node_in (live past) n) refl where
+    by : (o : Option Node) → node_in (live past) n ≡ o → (z : Node) × (w.node n ≡ Some z)
+    by None q = (y, found n ∙ ap (λ o. or_else o (node_in m.born n)) q ∙ e)
+    by (Some x) q = (x, found n ∙ ap (λ o. or_else o (node_in m.born n)) q)
+
+  pub all_there : (ds : List Plan) → are_all_born m.born ds ≡ true → AllByRecursion (λ d. (y : Node) × (w.node d.name ≡ Some y)) ds
+  all_there [] h = tt
+  all_there (d ∷ ds) h =
+      let p = both_true _ _ h in
+      let y = some_there (node_in m.born d.name) p.0 in
+      (born_there d.name y.0 y.1, all_there ds p.1)
+
   -- what is born has a name of the time
   module _ (planned : AllByRecursion (λ x. (d : Plan) × (plan_as prog w x.name ≡ Some d)) m.born) (only : AllByRecursion (λ f. is_some (w.node f.node) ≡ true) m.fired) where
     born_plan : (n : Name) (x : Node) → node_in m.born n ≡ Some x → (d : Plan) × (plan_as prog w n ≡ Some d)
@@ -252,20 +266,6 @@ module _ (prog : Prog) (past : List Moment) (is_past : IsPast prog past) (m : Mo
 
     pub none_born_old : (n : Name) → is_new w n ≡ false → node_in m.born n ≡ None
     none_born_old = none_born planned happens.facts_of_live
-
-    -- what is born is there
-    born_there : (n : Name) (y : Node) → node_in m.born n ≡ Some y → (z : Node) × (w.node n ≡ Some z)
-    born_there n y e = by (node_in (live past) n) refl where
-      by : (o : Option Node) → node_in (live past) n ≡ o → (z : Node) × (w.node n ≡ Some z)
-      by None q = (y, found n ∙ ap (λ o. or_else o (node_in m.born n)) q ∙ e)
-      by (Some x) q = (x, found n ∙ ap (λ o. or_else o (node_in m.born n)) q)
-
-    pub all_there : (ds : List Plan) → are_all_born m.born ds ≡ true → AllByRecursion (λ d. (y : Node) × (w.node d.name ≡ Some y)) ds
-    all_there [] h = tt
-    all_there (d ∷ ds) h =
-        let p = both_true _ _ h in
-        let y = some_there (node_in m.born d.name) p.0 in
-        (born_there d.name y.0 y.1, all_there ds p.1)
 
     pub moment_made : AreMade prog w
     moment_made = record {

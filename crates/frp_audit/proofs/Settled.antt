@@ -172,7 +172,7 @@ module _ (prog : Prog) (typed : IsTypedProg prog) (sends : List Sent) (past : Li
     lows = λ n x v e f. (suc (length names), low_in Birth n);
     lower = λ n x e b. is_lower n x e;
     equations = λ n x e b. happens.equations n x e;
-    there = λ n x e b. all_there prog past is_past m earlier sends happens (plans_by prog w x) (happens.born_exactly.each_is_born n x e);
+    there = λ n x e b. all_there prog past is_past m earlier (plans_by prog w x) (happens.born_exactly.each_is_born n x e);
     reads = λ n x shown fired e b s l formed.
         let v : Sight = seen w shown (holds w) fired in
         bare_reads v (holds w n) x (reads_are_there prog v n (bare (holds w n) x) formed (part_firsts shown fired) (shown_seen w shown (holds w) fired n x s e));

@@ -64,3 +64,17 @@ abbrev pub EndlessExcludes : Type 0
 EndlessExcludes = (prog : Prog) (limits : Limits) (sends : List Sent) (k : ℕ) (before moments : List Moment) (e : Evidence) → IsTypedProg prog
     → IsTrueEvidence prog limits sends k before e → IsTrue (is_endless e.why) → AreSendable prog sends (before ++ moments)
     → IsSoundTrace prog sends (before ++ moments) → KeepsLimits limits (before ++ moments) → ⊥
+
+-- Of a transaction there is one verdict. Where there is true evidence against it, the moments before it go on to no trace within the
+-- limits that meets the rules for these sends, if they could be sent in it.
+abbrev pub EvidenceExcludes : Type 0
+EvidenceExcludes = (prog : Prog) (limits : Limits) (sends : List Sent) (k : ℕ) (before moments : List Moment) (e : Evidence) → IsTypedProg prog
+    → IsTrueEvidence prog limits sends k before e → AreSendable prog sends (before ++ moments) → IsSoundTrace prog sends (before ++ moments)
+    → KeepsLimits limits (before ++ moments) → ⊥
+
+-- Where true evidence shows of a transaction that it is endless, all true evidence over the same moments shows that, for sends that
+-- could be sent in these.
+abbrev pub EndlessByAll : Type 0
+EndlessByAll = (prog : Prog) (limits : Limits) (sends : List Sent) (k : ℕ) (before : List Moment) (e f : Evidence) → IsTypedProg prog
+    → AreSendable prog sends before → IsTrueEvidence prog limits sends k before e → IsTrueEvidence prog limits sends k before f
+    → IsTrue (is_endless e.why) → IsTrue (is_endless f.why)

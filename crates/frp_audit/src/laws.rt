@@ -1,4 +1,4 @@
-ghost use Rattle.frp_audit.specs.Laws.{OneTrace, ChainsExclude, EndlessExcludes, FullExcludes, TooLargeExcludes};
+ghost use Rattle.frp_audit.specs.Laws.{OneTrace, ChainsExclude, EndlessExcludes, FullExcludes, TooLargeExcludes, EvidenceExcludes, EndlessByAll};
 
 /// For given sends there is only one trace that meets the rules.
 pub fn one_trace()
@@ -23,4 +23,11 @@ pub fn full_excludes()
 /// Of a transaction of which true evidence shows more moments than the limit there is no trace within the limits.
 pub fn endless_excludes()
     ensures { EndlessExcludes }
+{}
+
+/// Of a transaction there is one verdict: with true evidence against it there is no trace within the limits, and where some
+/// evidence shows that it is endless, all evidence does.
+pub fn one_verdict()
+    ensures no_trace { EvidenceExcludes }
+    ensures endless_too { EndlessByAll }
 {}
