@@ -1,0 +1,12 @@
+pub mod State
+pub mod Calls
+pub mod Dependents
+pub mod Places
+pub mod Items
+pub mod Edges
+pub mod Lists
+pub mod Undo
+pub mod Closing
+pub mod Kept
+pub mod Adding
+pub mod Seen
