@@ -1,0 +1,4 @@
+use Rattle.frp_links_times.proofs.measure_in.Goals as goal
+
+pub chain-requires-clause-switches : goal.chain-requires-clause-switches
+chain-requires-clause-switches c = c.can_read.ensures.switches c.if-not-can_read.false
