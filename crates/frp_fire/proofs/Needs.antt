@@ -30,7 +30,7 @@ use Rattle.frp_graph.proofs.Readable.{before_there, after_there}
 use Rattle.frp_fire.specs.Fires.{refers_in, is_reference, has_target}
 
 -- a value of a node's type refers to a node
-refers_layer : (nodes : Name → Option Ty) (sigs : List Sig) (l : Val-F Val) (x : Ty) (w : Ty-F Ty) → (is_some (stream_in w) || is_some (cell_in w)) ≡ true
+pub refers_layer : (nodes : Name → Option Ty) (sigs : List Sig) (l : Val-F Val) (x : Ty) (w : Ty-F Ty) → (is_some (stream_in w) || is_some (cell_in w)) ≡ true
     → Layer nodes sigs l x w ≡ true → refers_in l ≡ true
 refers_layer nodes sigs (o.Stream n) x w e h = refl
 refers_layer nodes sigs (o.Cell n) x w e h = refl

@@ -5,4 +5,6 @@ mod calls;
 mod firing;
 mod rows;
 
+pub use calls::{call_one, function};
 pub use firing::fire;
+pub use rows::copied;
