@@ -13,6 +13,7 @@ pub enum Graph {
 }
 
 impl Graph {
+    /// What is measured, in words.
     pub fn word(self) -> &'static str {
         match self {
             Graph::Ring => "a ring",
